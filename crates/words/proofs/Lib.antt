@@ -1,0 +1,3 @@
+mod Justified
+mod Spelled
+mod Words
