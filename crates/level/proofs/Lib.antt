@@ -1,0 +1,10 @@
+pub mod Answers
+pub mod Histories
+pub mod Promises
+pub mod Sizes
+pub mod MemoryMeaning
+pub mod PlainMeaning
+pub mod ImageMeaning
+pub mod ModulesMeaning
+pub mod GuardMeaning
+pub mod Checks

@@ -1,0 +1,5 @@
+use Rattle.level.proofs.ModulesMeaning.{modules-meaning}
+use Rattle.level.proofs.laws.modules_keep_meaning.Needs as need
+
+pub returns : need.returns
+returns c = modules-meaning

@@ -1,0 +1,9 @@
+pub mod Level
+pub mod Told
+pub mod Runs
+pub mod Meaning
+pub mod Promise
+pub mod Memory
+pub mod Modules
+pub mod Guard
+pub mod Checks

@@ -1,0 +1,17 @@
+pub mod Pigeon
+pub mod Nearer
+pub mod Sound
+pub mod Tables
+pub mod Changes
+pub mod Echoes
+pub mod Below
+pub mod Coupled
+pub mod Steps
+pub mod Calls
+pub mod Queries
+pub mod Keeps
+pub mod CacheMeaning
+pub mod Fronts
+pub mod Bounds
+pub mod RunBelow
+pub mod Whole

@@ -1,0 +1,6 @@
+pub mod Members
+pub mod Orders
+pub mod Parts
+pub mod Places
+pub mod Policies
+pub mod Turns

@@ -1,0 +1,4 @@
+pub mod Policies
+pub mod Row
+pub mod Slots
+pub mod Ways

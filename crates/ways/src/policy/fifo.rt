@@ -1,0 +1,45 @@
+ghost use Rattle.ways.specs.Policies.{Queues, fifo};
+ghost use Rattle.ways.specs.Row.{orders-of};
+use super::Policy;
+use super::order::fresh_row;
+use super::order::last_slot;
+use super::order::put_first;
+use super::order::put_last;
+use crate::block::Block;
+use crate::mapping::Mapping;
+use crate::slot::Slot;
+
+// The block that came up first is given up first.
+#[derive(Drop)]
+pub struct Fifo {
+    row: [u8; 8],
+}
+
+pub impl<M: Mapping> Policy<M> for Fifo as FifoPolicy {
+    ghost State = { Queues };
+
+    ghost state = { λ p. orders-of (M·Mapping .shape) (p .row) };
+
+    ghost orders = { fifo };
+
+    fn fresh() -> Self {
+        Fifo {
+            row: fresh_row::<M>(),
+        }
+    }
+
+    fn victim(&self, block: Block) -> Slot {
+        last_slot::<M>(&self.row, block)
+    }
+
+    // The order is that of the loads, which a hit leaves.
+    fn hit(&mut self, _slot: Slot) {}
+
+    fn loaded(&mut self, slot: Slot) {
+        put_first::<M>(&mut self.row, slot);
+    }
+
+    fn emptied(&mut self, slot: Slot) {
+        put_last::<M>(&mut self.row, slot);
+    }
+}
