@@ -1,5 +1,5 @@
 -- What the checks tell.
-use mathlib.Core.Path.{_≡_, refl}
+use mathlib.Core.Path.{_≡_, refl, ap}
 use mathlib.Core.Bool.{Bool, true, false, cond, _&&_}
 use mathlib.Core.Logic.{_↔_}
 use Prim.Native.Nat.{ℕ, _+_, _/_, _%_, _<_, _≤_}
@@ -100,8 +100,8 @@ memory-checks = record {
 
 pub guard-checks : {S : Type 0} (R : Rules S) → Guard-checks R
 guard-checks R = record {
-  guard = λ s. tells (ltb 0 (s .count)) (within-size R s) 5 6 (omega arith) (omega arith) (ltb-says 0 (s .count)) (leb-says (s .first + s .count) (R .size (s .below) / 4));
-  guard-made = λ s. made (guard-rules R) s (R .size (s .below)) (R .worst (s .below)) (R .worst (s .below)) (ltb 0 (s .count)) (within-size R s) 5 6 (omega arith) (omega arith) refl (same-either (ltb 0 (s .count) && within-size R s) (R .worst (s .below)));
+  guard = λ first count size. tells (ltb 0 count) (within-size first count size) 5 6 (omega arith) (omega arith) (ltb-says 0 count) (leb-says (first + count) (size / 4));
+  guard-made = λ s g. made (guard-rules R) s (R .size (s .below)) (R .worst (s .below)) (R .worst (s .below)) (ltb 0 (s .count)) (within-size (s .first) (s .count) (R .size (s .below))) 5 6 (omega arith) (omega arith) (ap (λ b. cond b (R .size (s .below)) 0) (g .0)) (same-either (ltb 0 (s .count) && within-size (s .first) (s .count) (R .size (s .below))) (R .worst (s .below)));
   returns-pass = λ s. refl;
   returns-cost = λ s. deep-clocks (R .step (s .below) returnAll .answer);
 }

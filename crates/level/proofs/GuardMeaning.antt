@@ -14,7 +14,7 @@ use Rattle.level.specs.Level.Answer.{accepted, refused}
 use Rattle.level.specs.Runs.{Log, Run, Returned, Never-back, Runs-below, Onward, Placed, logged, history, writes}
 use Rattle.level.specs.Runs.Run.{begun, called}
 use Rattle.level.specs.Meaning.{Kept, Meaning, Judged, cause, verdict, given}
-use Rattle.level.specs.Guard.{Guarded, guard-rules, guard-ok, guard-size, guard-step, in-range, pass-down, refuse-here}
+use Rattle.level.specs.Guard.{Guarded, guard-rules, guard-size, guard-step, in-range, pass-down, refuse-here}
 use Rattle.level.proofs.Histories.{placed-now}
 
 -- ---- an answer from one level deeper
@@ -72,12 +72,12 @@ placed-over {n = n} same p = record {
 
 module _ {S : Type 0} (R : Rules S) where
   each : (t : Guarded S) (c : Call) (P : Outcome (Guarded S) → Type 0) → P (pass-down R t c) → ((n : ℕ) → (0 < n) × ((b : ℕ) → Returned c (refused n (address c) 0) b → ⊥) → P (refuse-here R t n (address c))) → P (guard-step R t c)
-  each t (read a) P down here = cond-both (guard-ok R t) (pass-down R t (read a)) (refuse-here R t 1 a) P (λ e. down) (λ e. here 1 (omega arith, λ b h. h))
+  each t (read a) P down here = cond-both (t .sound) (pass-down R t (read a)) (refuse-here R t 1 a) P (λ e. down) (λ e. here 1 (omega arith, λ b h. h))
   each t (write a v) P down here =
-      cond-both (guard-ok R t) (cond (in-range R t (block a)) (refuse-here R t 2 a) (pass-down R t (write a v))) (refuse-here R t 1 a) P
+      cond-both (t .sound) (cond (in-range R t (block a)) (refuse-here R t 2 a) (pass-down R t (write a v))) (refuse-here R t 1 a) P
       (λ e. cond-both (in-range R t (block a)) (refuse-here R t 2 a) (pass-down R t (write a v)) P (λ d. here 2 (omega arith, λ b h. h)) (λ d. down))
       (λ e. here 1 (omega arith, λ b h. h))
-  each t (returnBlock a) P down here = cond-both (guard-ok R t) (pass-down R t (returnBlock a)) (refuse-here R t 1 a) P (λ e. down) (λ e. here 1 (omega arith, λ b h. both-ways false refl (h .0)))
+  each t (returnBlock a) P down here = cond-both (t .sound) (pass-down R t (returnBlock a)) (refuse-here R t 1 a) P (λ e. down) (λ e. here 1 (omega arith, λ b h. both-ways false refl (h .0)))
   each t returnAll P down here = down
 
   abbrev Hist : Guarded S → Log → ℕ → List ℕ
@@ -87,6 +87,7 @@ module _ {S : Type 0} (R : Rules S) where
   record Follows (s t : Guarded S) (log : Log) (Back : (ℕ → ℕ) → Type 0) : Type 0 where
     first : t .first ≡ s .first
     count : t .count ≡ s .count
+    sound : t .sound ≡ s .sound
     lowlog : Log
     under : Run R (s .below) lowlog (t .below)
     same : (i : ℕ) → Hist s log i ≡ Hist s lowlog i
@@ -97,7 +98,7 @@ module _ {S : Type 0} (R : Rules S) where
   Back {s} {log} {t} r c o n = (m : ℕ → ℕ) × Never-back r m × Onward (guard-rules R) s log c o m n
 
   small : (s : Guarded S) (a : ℕ) → a < guard-size R s → a < R .size (s .below)
-  small s a = cond-both (guard-ok R s) (R .size (s .below)) 0 (λ n. a < n → a < R .size (s .below)) (λ e l. l) (λ e l. absurd (omega arith))
+  small s a = cond-both (s .sound) (R .size (s .below)) 0 (λ n. a < n → a < R .size (s .below)) (λ e l. l) (λ e l. absurd (omega arith))
 
   follows-next : (s t : Guarded S) (log : Log) (r : Run (guard-rules R) s log t) (c : Call) → Follows s t log (Never-back r) → Follows s (guard-step R t c .next) (logged c (guard-step R t c .answer) log) (Back r c (guard-step R t c))
   follows-next s t log r c f = each t c (λ o. Follows s (o .next) (logged c (o .answer) log) (Back r c o)) down (λ n h. here n (h .1))
@@ -114,6 +115,7 @@ module _ {S : Type 0} (R : Rules S) where
       down = record {
         first = f .first;
         count = f .count;
+        sound = f .sound;
         lowlog = logged c x (f .lowlog);
         under = called (f .under) c;
         same = same-down;
@@ -135,6 +137,7 @@ module _ {S : Type 0} (R : Rules S) where
       here n not = record {
         first = f .first;
         count = f .count;
+        sound = f .sound;
         lowlog = f .lowlog;
         under = f .under;
         same = λ i. same-here n i ∙ f .same i;
@@ -142,20 +145,17 @@ module _ {S : Type 0} (R : Rules S) where
       }
 
   follows : (s : Guarded S) {log : Log} {t : Guarded S} (r : Run (guard-rules R) s log t) → Follows s t log (Never-back r)
-  follows s begun = record { first = refl; count = refl; lowlog = []; under = begun; same = λ i. refl; back = λ n nb. nb }
+  follows s begun = record { first = refl; count = refl; sound = refl; lowlog = []; under = begun; same = λ i. refl; back = λ n nb. nb }
   follows s (called {log = log} {t = t} r c) = follows-next s t log r c (follows s r)
 
 -- ---- what a guard keeps
 
-module _ {S : Type 0} {R : Rules S} (h : Meaning R) (s t : Guarded S) (log : Log) (fresh : R .fresh (s .below)) (r : Run (guard-rules R) s log t) where
+module _ {S : Type 0} {R : Rules S} (h : Meaning R) (s t : Guarded S) (log : Log) (fresh : guard-rules R .fresh s) (r : Run (guard-rules R) s log t) where
   f : Follows R s t log (Never-back r)
   f = follows R s r
 
   k : Kept R (s .below) (t .below) (f .lowlog) (f .under)
-  k = h .kept (s .below) (t .below) (f .lowlog) fresh (f .under)
-
-  ok-same : guard-ok R t ≡ guard-ok R s
-  ok-same = let p = f .first in let q = f .count in let e = k .size-fixed in cc
+  k = h .kept (s .below) (t .below) (f .lowlog) (fresh .1) (f .under)
 
   back-same : (b : ℕ) → in-range R t b ≡ in-range R s b
   back-same b = let p = f .first in let q = f .count in cc
@@ -167,18 +167,24 @@ module _ {S : Type 0} {R : Rules S} (h : Meaning R) (s t : Guarded S) (log : Log
       subst (λ n. Judged n (address c) (deeper (R .step (t .below) c .answer))) same (deep-judged _ (address c) (R .step (t .below) c .answer) (k .judged c))
   judged-plain c e false = (omega arith, sym (e 0 (guard-rules R .locked s) ∙ rw (none-below (address c))), refl, omega arith)
 
-  judged-write : (a v : ℕ) (b w : Bool) → guard-ok R s ≡ b → in-range R s (block a) ≡ w → Judged (cond (ltb a (cond b (R .size (s .below)) 0)) (cond (w || R .locked (s .below) (block a)) 2 0) 1) a (cond b (cond w (refuse-here R t 2 a) (pass-down R t (write a v))) (refuse-here R t 1 a) .answer)
+  judged-write : (a v : ℕ) (b w : Bool) → s .sound ≡ b → in-range R s (block a) ≡ w → Judged (cond (ltb a (cond b (R .size (s .below)) 0)) (cond (w || R .locked (s .below) (block a)) 2 0) 1) a (cond b (cond w (refuse-here R t 2 a) (pass-down R t (write a v))) (refuse-here R t 1 a) .answer)
   judged-write a v true false e d = deep-judged _ a (R .step (t .below) (write a v) .answer) (k .judged (write a v))
   judged-write a v false w e d = (omega arith, rw (none-below a), refl, omega arith)
   judged-write a v true true e d =
-      let p = and-parts (ltb 0 (s .count)) (leb (s .first + s .count) (R .size (s .below) / 4)) e in
+      let p = and-parts (ltb 0 (s .count)) (leb (s .first + s .count) (R .size (s .below) / 4)) (sym (fresh .0) ∙ e) in
       let q = and-parts (leb (s .first) (block a)) (ltb (block a) (s .first + s .count)) d in
       (omega arith, rw (lt-ltb a (R .size (s .below)) (omega (arith, leb-true (s .first + s .count) (R .size (s .below) / 4) (p .1), ltb-true (block a) (s .first + s .count) (q .1)))), refl, omega arith)
 
+  -- a fact of the answer that holds under the mark of the making holds under the mark now
+  by-mark : (c : Call) (o : Bool → Outcome (Guarded S)) → Judged (cause (guard-size R s) (guard-rules R .locked s) c) (address c) (o (s .sound) .answer) → Judged (cause (guard-size R s) (guard-rules R .locked s) c) (address c) (o (t .sound) .answer)
+  by-mark c o = subst (λ b. Judged (cause (guard-size R s) (guard-rules R .locked s) c) (address c) (o b .answer)) (sym (f .sound))
+
   judged : (c : Call) → Judged (cause (guard-size R s) (guard-rules R .locked s) c) (address c) (guard-step R t c .answer)
-  judged (read a) = rw ok-same (judged-plain (read a) (λ n l. refl) (guard-ok R s))
-  judged (write a v) = rw (ok-same, back-same) (judged-write a v (guard-ok R s) (in-range R s (block a)) refl refl)
-  judged (returnBlock a) = rw ok-same (judged-plain (returnBlock a) (λ n l. refl) (guard-ok R s))
+  judged (read a) = by-mark (read a) (λ b. cond b (pass-down R t (read a)) (refuse-here R t 1 a)) (judged-plain (read a) (λ n l. refl) (s .sound))
+  judged (write a v) =
+      by-mark (write a v) (λ b. cond b (cond (in-range R t (block a)) (refuse-here R t 2 a) (pass-down R t (write a v))) (refuse-here R t 1 a))
+      (rw back-same (judged-write a v (s .sound) (in-range R s (block a)) refl refl))
+  judged (returnBlock a) = by-mark (returnBlock a) (λ b. cond b (pass-down R t (returnBlock a)) (refuse-here R t 1 a)) (judged-plain (returnBlock a) (λ n l. refl) (s .sound))
   judged returnAll = deep-judged 0 0 (R .step (t .below) returnAll .answer) (k .judged returnAll)
 
   asked : (c : Call) (q : Answer) → verdict (R .step (t .below) c .answer) ≡ q → (b : Bool) → verdict (cond b (pass-down R t c) (refuse-here R t 1 (address c)) .answer) ≡ cond b (deeper q) (refused 1 (address c) 0)
@@ -199,16 +205,16 @@ module _ {S : Type 0} {R : Rules S} (h : Meaning R) (s t : Guarded S) (log : Log
 
   guard-kept : Kept (guard-rules R) s t log r
   guard-kept = record {
-    size-fixed = rw ok-same (ap (λ n. cond (guard-ok R s) n 0) (k .size-fixed));
+    size-fixed = rw (f .sound) (ap (λ n. cond (s .sound) n 0) (k .size-fixed));
     locked-fixed = λ b. rw (back-same, k .locked-fixed);
     home-fixed = k .home-fixed;
     worst-fixed = k .worst-fixed;
     judged = judged;
-    asks-read = λ a. asked (read a) (R .ask (t .below) Read a) (k .asks-read a) (guard-ok R t);
-    asks-write = λ a v. asked-write a v (guard-ok R t) (in-range R t (block a));
-    asks-return = λ a. asked (returnBlock a) (R .ask (t .below) Read a) (k .asks-return a) (guard-ok R t);
+    asks-read = λ a. asked (read a) (R .ask (t .below) Read a) (k .asks-read a) (t .sound);
+    asks-write = λ a v. asked-write a v (t .sound) (in-range R t (block a));
+    asks-return = λ a. asked (returnBlock a) (R .ask (t .below) Read a) (k .asks-return a) (t .sound);
     refusal-stays = λ c. each R t c (λ o. taken (o .answer) ≡ false → o .next ≡ t)
-        (λ e i. record { first = t .first; count = t .count; below = k .refusal-stays c (sym (deep-taken (R .step (t .below) c .answer)) ∙ e) i }) (λ n h e. refl);
+        (λ e i. record { first = t .first; count = t .count; sound = t .sound; below = k .refusal-stays c (sym (deep-taken (R .step (t .below) c .answer)) ∙ e) i }) (λ n h e. refl);
     gives = λ c. each R t c (λ o. taken (o .answer) ≡ true → value (o .answer) ≡ given (R .seen (t .below)) c)
         (λ e. deep-value (R .step (t .below) c .answer) ∙ k .gives c (yes-below c e)) (λ n h e. absurd (both-ways false refl e));
     read-keeps = λ a b l. each R t (read a) (λ o. R .seen (o .next .below) b ≡ R .seen (t .below) b) (k .read-keeps a b (small R s b l)) (λ n h. refl);
@@ -225,11 +231,11 @@ module _ {S : Type 0} {R : Rules S} (h : Meaning R) (s t : Guarded S) (log : Log
 
 pub guard-meaning : {S : Type 0} (R : Rules S) → Meaning R → Meaning (guard-rules R)
 guard-meaning R h = record {
-  whole = λ s g. cond-both (guard-ok R s) (R .size (s .below)) 0 (λ n. n % 4 ≡ 0) (λ e. h .whole (s .below) g) (λ e. refl);
-  reach = λ s g. cond-both (guard-ok R s) (R .size (s .below)) 0 (λ n. n ≤ 65536) (λ e. h .reach (s .below) g) (λ e. omega arith);
-  lodged = λ s g a l. h .lodged (s .below) g a (small R s a l);
-  apart = λ s g a b l m. h .apart (s .below) g a b (small R s a l) (small R s b m);
-  starts = λ s g a l. h .starts (s .below) g a (small R s a l);
+  whole = λ s g. cond-both (s .sound) (R .size (s .below)) 0 (λ n. n % 4 ≡ 0) (λ e. h .whole (s .below) (g .1)) (λ e. refl);
+  reach = λ s g. cond-both (s .sound) (R .size (s .below)) 0 (λ n. n ≤ 65536) (λ e. h .reach (s .below) (g .1)) (λ e. omega arith);
+  lodged = λ s g a l. h .lodged (s .below) (g .1) a (small R s a l);
+  apart = λ s g a b l m. h .apart (s .below) (g .1) a b (small R s a l) (small R s b m);
+  starts = λ s g a l. h .starts (s .below) (g .1) a (small R s a l);
   kept = λ s t log g r. guard-kept h s t log g r;
 }
 

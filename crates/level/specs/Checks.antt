@@ -40,8 +40,8 @@ pub record Memory-checks : Type 0 where
   pub modules-made : (s : Modules) → Made modules-rules s (modules-check s) (modules-length s) (s .long) 0
 
 pub record Guard-checks {S : Type 0} (R : Rules S) : Type 0 where
-  pub guard : (s : Guarded S) → Tells (guard-check R s) 5 6 (0 < s .count) (s .first + s .count ≤ R .size (s .below) / 4)
-  pub guard-made : (s : Guarded S) → Made (guard-rules R) s (guard-check R s) (R .size (s .below)) (R .worst (s .below)) (R .worst (s .below))
+  pub guard : (first count size : ℕ) → Tells (guard-check first count size) 5 6 (0 < count) (first + count ≤ size / 4)
+  pub guard-made : (s : Guarded S) → guard-rules R .fresh s → Made (guard-rules R) s (guard-check (s .first) (s .count) (R .size (s .below))) (R .size (s .below)) (R .worst (s .below)) (R .worst (s .below))
   -- a full return goes down, and costs what it costs there, of a guard of size 0 too
   pub returns-pass : (s : Guarded S) → guard-rules R .step s returnAll .next .below ≡ R .step (s .below) returnAll .next
   pub returns-cost : (s : Guarded S) → clocks (guard-rules R .step s returnAll .answer) ≡ clocks (R .step (s .below) returnAll .answer)

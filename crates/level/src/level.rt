@@ -1,5 +1,6 @@
 ghost use base.Fml.{GName};
 ghost use denote.Ref.{now};
+ghost use mathlib.Core.List.{List};
 ghost use mathlib.Core.Path.{_≡_};
 ghost use Prim.Native.Nat.{min};
 ghost use Rattle.level.specs.Level.{Rules, capped, clocks};
@@ -32,8 +33,8 @@ pub trait Level {
 
     ghost rules: { Rules State };
 
-    // The memory at the bottom, which the caller lends.
-    ghost lent: { Self → GName };
+    // The memories at the bottom, which the caller lends: one, two for two modules, and none for an image.
+    ghost lent: { Self → List GName };
 
     law meaning: { Meaning rules };
 

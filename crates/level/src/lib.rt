@@ -2,6 +2,7 @@
 
 mod laws;
 mod level;
+mod refusal;
 
 pub use laws::guard_check_tells;
 pub use laws::guard_keeps_meaning;
@@ -14,3 +15,4 @@ pub use laws::plain_keeps_meaning;
 pub use level::Access;
 pub use level::Done;
 pub use level::Level;
+pub use refusal::deeper;

@@ -1,6 +1,6 @@
 -- The bench rows: worked examples of the rules.
 use mathlib.Core.Path.{_≡_}
-use mathlib.Core.Bool.{false, cond}
+use mathlib.Core.Bool.{true, false, cond}
 use mathlib.Core.List.{List, [], _∷_, _++_}
 use Prim.Native.Nat.{ℕ, suc, _+_, _*_, _/_}
 use lib.ListN.{replicate}
@@ -107,7 +107,7 @@ pub record Bench-rows : Type 0 where
   -- two modules: a missed read at 1
   pub row-10 : answers (cache-rules modules-rules two-way fifo) (over zero-modules two-way fifo) (read 1 ∷ []) ≡ accepted 0 21 ∷ []
   -- a guard on block 2 under the cache: a write at 9
-  pub row-11 : answers (cache-rules (guard-rules plain-rules) two-way fifo) (over (record { first = 2; count = 1; below = zeros }) two-way fifo) (write 9 1 ∷ []) ≡ refused 2 9 1 ∷ []
+  pub row-11 : answers (cache-rules (guard-rules plain-rules) two-way fifo) (over (record { first = 2; count = 1; sound = true; below = zeros }) two-way fifo) (write 9 1 ∷ []) ≡ refused 2 9 1 ∷ []
   -- two different blocks, each read twice: the cost, and the bound on it, by its figures and as a number
   pub row-12-cost : cost (pile-log (read 0 ∷ read 16 ∷ read 0 ∷ read 16 ∷ [])) ≡ 46
   pub row-12-figures : bound (plain-rules .worst zeros) (pile-log (read 0 ∷ read 16 ∷ read 0 ∷ read 16 ∷ [])) ≡ 4 + 2 * (13 + 8 * 3)

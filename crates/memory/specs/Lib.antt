@@ -1,0 +1,6 @@
+pub mod Answers
+pub mod Guards
+pub mod Images
+pub mod Plains
+pub mod Reach
+pub mod TwoModules
