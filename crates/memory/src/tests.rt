@@ -1,3 +1,7 @@
+ghost use mathlib.Core.Path.{_≡_};
+ghost use Rattle.level.specs.Level.Call.{write as writeCall};
+ghost use Rattle.level.specs.Memory.{plain-rules};
+ghost use Rattle.memory.specs.Plains.{plain-made};
 use crate::Guard;
 use crate::GuardLevel;
 use crate::Image;
@@ -66,6 +70,21 @@ fn lengths_and_figures() -> Result<(), Fail> {
     check_eq(memory_number(Modules::<&mut [u8]>::check(2, 2, 2, 5)), 0)?;
     check_eq(memory_number(Modules::<&mut [u8]>::check(2, 2, 5, 2)), 4)?;
     check_eq(memory_number(Modules::<&mut [u8]>::check(2, 1, 2, 5)), 3)
+}
+
+// A memory that is let go leaves in the caller's bytes what its rule says.
+fn write_once(bytes: &mut [u8], address: u16, byte: u8)
+    ensures { λ _. ⌜ now (bytes .exit) ≡ plain-rules .step (plain-made (now (bytes .entry)) 3) (writeCall address byte) .next .bytes ⌝ }
+{
+    let mut memory = Plain::new(bytes, 3);
+    let _ = memory.write(address, byte);
+}
+
+#[test]
+fn bytes_are_the_callers() -> Result<(), Fail> {
+    let mut bytes = [0; 8];
+    write_once(&mut bytes[0..8], 5, 9);
+    check_eq(bytes, [0, 0, 0, 0, 0, 9, 0, 0])
 }
 
 #[test]
