@@ -31,21 +31,44 @@ const REQUESTS: u32 = 4096;
 fn main(rt: LibcRuntime) -> Result<(), AnyError> {
     let mut bytes = [7; 65536];
     let bare = bare_reads(&rt, &bytes[0..65536])?;
+    let bare_chained = bare_chained_reads(&rt, &bytes[0..65536])?;
     let plain = Plain::new(&mut bytes[0..65536], 3);
     let mut pile: Cache<Plain<&mut [u8]>, Direct, Fifo> = Cache::over(plain);
     let hits = level_reads(&rt, &mut pile)?;
-    eprintln!(rt, "{HITS} bare reads {bare} ns, {HITS} hits {hits} ns")?;
+    let hits_chained = level_chained_reads(&rt, &mut pile)?;
+    eprintln!(
+        rt,
+        "{HITS} independent reads: bare {bare} ns, hits {hits} ns"
+    )?;
+    eprintln!(
+        rt,
+        "{HITS} chained reads: bare {bare_chained} ns, hits {hits_chained} ns"
+    )?;
     pile_times::<Direct, Fifo>(&rt, "direct FIFO")?;
     pile_times::<SetAssociative, Fifo>(&rt, "set-associative FIFO")?;
     pile_times::<Associative, Lru>(&rt, "associative LRU")
 }
 
-// Reads in one block straight from the array.
+// Reads in one block straight from the array. They do not hang on one another, so the compiler may do several at once.
 fn bare_reads(rt: &LibcRuntime, bytes: &[u8]) -> Result<u128, AnyError> {
     let start = Instant::now(rt)?;
     let mut sum = 0u32;
     for i in 0..HITS {
-        // The next address hangs on the byte read, so that the reads cannot be done side by side.
+        let address = (i % 4) as usize;
+        if address < bytes.len() {
+            sum = sum.wrapping_add(bytes[address] as u32 ^ i);
+        }
+    }
+    let time = start.elapsed(rt)?.as_nanos();
+    eprintln!(rt, "(sum {sum})")?;
+    Ok(time)
+}
+
+// The same with each address taken from the byte before, so that one read waits for the other.
+fn bare_chained_reads(rt: &LibcRuntime, bytes: &[u8]) -> Result<u128, AnyError> {
+    let start = Instant::now(rt)?;
+    let mut sum = 0u32;
+    for i in 0..HITS {
         let address = (sum % 4) as usize;
         if address < bytes.len() {
             sum = sum.wrapping_add(bytes[address] as u32 ^ i);
@@ -56,8 +79,22 @@ fn bare_reads(rt: &LibcRuntime, bytes: &[u8]) -> Result<u128, AnyError> {
     Ok(time)
 }
 
-// Reads in one block through a level.
+// The first kind of reads through a level.
 fn level_reads<L: Level>(rt: &LibcRuntime, pile: &mut L) -> Result<u128, AnyError> {
+    let start = Instant::now(rt)?;
+    let mut sum = 0u32;
+    for i in 0..HITS {
+        if let Ok(done) = pile.read((i % 4) as u16) {
+            sum = sum.wrapping_add(done.value as u32 ^ i);
+        }
+    }
+    let time = start.elapsed(rt)?.as_nanos();
+    eprintln!(rt, "(sum {sum})")?;
+    Ok(time)
+}
+
+// The second kind through a level.
+fn level_chained_reads<L: Level>(rt: &LibcRuntime, pile: &mut L) -> Result<u128, AnyError> {
     let start = Instant::now(rt)?;
     let mut sum = 0u32;
     for i in 0..HITS {
