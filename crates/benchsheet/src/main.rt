@@ -1,5 +1,7 @@
 // Runs the rows of the bench sheet, each on a fresh pile, and tells of each what was wanted and what came.
 
+#![tactic(auto)]
+
 use anyhow::anyhow;
 use cache::Cache;
 use level::{Done, Level};

@@ -29,7 +29,7 @@ struct Ready {
 
 // The set of an entry.
 fn set_of<M: Mapping>(slot: Slot) -> u8
-    ensures { result ≡ set_of shape slot.index }
+    ensures { result ≡ set_of M.Mapping.shape slot.index }
 {
     (slot.index() / M::way_count()) as u8
 }

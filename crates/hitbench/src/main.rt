@@ -2,6 +2,8 @@
 // requests on each pile, over a small and over the largest memory. The figures go to standard error, since they differ
 // from run to run.
 
+#![tactic(auto)]
+
 use cache::Cache;
 use level::Level;
 use memory::Plain;

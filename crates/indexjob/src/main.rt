@@ -1,5 +1,8 @@
 // An index job of a rotary table. The angles of its eight stations go through a pile into the memory below it, the table
 // goes once round, and an account of the job is printed.
+
+#![tactic(auto)]
+
 ghost use Rattle.std.specs.Prelude.{◌≡◌, IfOk};
 
 mod angle;
@@ -73,7 +76,7 @@ struct Report {
 // Piles a guard and a cache on the memory, runs the job, prints the account of it, and hands the memory back with the angles
 // as they were last read.
 fn index_job<L: Level + Drop>(rt: &HostRuntime, memory: L) -> anyhow::Result<(L, Angles)>
-    ensures { IfOk result (λ back. lent back.0 ≡ lent memory) }
+    ensures { IfOk result (λ back. L.Level.lent back.0 ≡ L.Level.lent memory) }
 {
     let quoted = quote(MOVE_CALLS, MOVE_BLOCKS, FIGURE);
     let pile: Cache<Guard<L>, SetAssociative, Fifo> = Cache::over(Guard::new(

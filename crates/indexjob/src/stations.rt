@@ -36,10 +36,10 @@ pub fn record_of(station: u8) -> u16
 
 // The angle of a station, and what the two reads cost.
 fn read_angle<L: Level>(running: &mut Running<L>, station: u8) -> Result<(Angle, u32), CallRefusal>
-    ensures angle { IfOk result (λ told. told.0.tenths ≡ angle_read rules (state running.old.pile) (16 * station)) }
+    ensures angle { IfOk result (λ told. told.0.tenths ≡ angle_read L.Level.rules (L.Level.state running.old.pile) (16 * station)) }
     ensures clocks { IfOk result (λ told. running.new.clocks ≡ topped (running.old.clocks + told.1)) }
-    ensures next { OnOk result (state running.new.pile ≡ after_angle rules (state running.old.pile) (16 * station)) }
-    ensures lent { lent running.new.pile ≡ lent running.old.pile }
+    ensures next { OnOk result (L.Level.state running.new.pile ≡ after_angle L.Level.rules (L.Level.state running.old.pile) (16 * station)) }
+    ensures lent { L.Level.lent running.new.pile ≡ L.Level.lent running.old.pile }
 {
     let place = record_of(station);
     let high = running.read(place)?;
@@ -49,7 +49,7 @@ fn read_angle<L: Level>(running: &mut Running<L>, station: u8) -> Result<(Angle,
 }
 
 pub fn read_all<L: Level>(running: &mut Running<L>) -> Result<Angles, CallRefusal>
-    ensures { lent running.new.pile ≡ lent running.old.pile }
+    ensures { L.Level.lent running.new.pile ≡ L.Level.lent running.old.pile }
 {
     let mut angles = [Angle { tenths: 0 }; STATIONS];
     for station in 0..STATIONS {
@@ -65,8 +65,8 @@ pub fn teach<L: Level>(
     station: u8,
     angle: Angle,
 ) -> Result<(), CallRefusal>
-    ensures next { OnOk result (state running.new.pile ≡ after_teaching rules (state running.old.pile) (16 * station) angle.tenths) }
-    ensures lent { lent running.new.pile ≡ lent running.old.pile }
+    ensures next { OnOk result (L.Level.state running.new.pile ≡ after_teaching L.Level.rules (L.Level.state running.old.pile) (16 * station) angle.tenths) }
+    ensures lent { L.Level.lent running.new.pile ≡ L.Level.lent running.old.pile }
 {
     let place = record_of(station);
     let [high, low] = angle.to_bytes();
@@ -76,7 +76,7 @@ pub fn teach<L: Level>(
 }
 
 pub fn teach_all<L: Level>(running: &mut Running<L>, angles: Angles) -> Result<(), CallRefusal>
-    ensures { lent running.new.pile ≡ lent running.old.pile }
+    ensures { L.Level.lent running.new.pile ≡ L.Level.lent running.old.pile }
 {
     for station in 0..STATIONS {
         teach(running, station as u8, angles[station])?;
@@ -86,11 +86,11 @@ pub fn teach_all<L: Level>(running: &mut Running<L>, angles: Angles) -> Result<(
 
 // Both angles are read, and the station that the table leaves is noted in the record of the one that it comes to.
 fn index<L: Level>(running: &mut Running<L>, from: u8, to: u8) -> Result<Move, CallRefusal>
-    ensures from { IfOk result (λ step. step.from.tenths ≡ angle_read rules (state running.old.pile) (16 * from)) }
-    ensures to { IfOk result (λ step. step.to.tenths ≡ angle_read rules (after_angle rules (state running.old.pile) (16 * from)) (16 * to)) }
+    ensures from { IfOk result (λ step. step.from.tenths ≡ angle_read L.Level.rules (L.Level.state running.old.pile) (16 * from)) }
+    ensures to { IfOk result (λ step. step.to.tenths ≡ angle_read L.Level.rules (after_angle L.Level.rules (L.Level.state running.old.pile) (16 * from)) (16 * to)) }
     ensures clocks { IfOk result (λ step. running.new.clocks ≡ topped (running.old.clocks + step.clocks)) }
-    ensures next { OnOk result (state running.new.pile ≡ after_move rules (state running.old.pile) from to) }
-    ensures lent { lent running.new.pile ≡ lent running.old.pile }
+    ensures next { OnOk result (L.Level.state running.new.pile ≡ after_move L.Level.rules (L.Level.state running.old.pile) from to) }
+    ensures lent { L.Level.lent running.new.pile ≡ L.Level.lent running.old.pile }
 {
     let (from_angle, first) = read_angle(running, from)?;
     let (to_angle, second) = read_angle(running, to)?;
@@ -104,7 +104,7 @@ fn index<L: Level>(running: &mut Running<L>, from: u8, to: u8) -> Result<Move, C
 
 // Once through all stations and back to the first.
 pub fn index_round<L: Level>(running: &mut Running<L>) -> Result<[Move; STATIONS], CallRefusal>
-    ensures { lent running.new.pile ≡ lent running.old.pile }
+    ensures { L.Level.lent running.new.pile ≡ L.Level.lent running.old.pile }
 {
     let nowhere = Angle { tenths: 0 };
     let mut moves = [Move {

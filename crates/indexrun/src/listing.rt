@@ -13,8 +13,8 @@ use words::{CallResult, Reader, check_list};
 
 // Runs a list on a level, and gives the whole text that tells of it. A list that is refused is not begun.
 pub fn listing<L: Level>(heap: Global, pile: &mut L, list: &[u8]) -> Result<String, AllocError>
-    ensures text { IfOk result (λ s. string_bytes s ≡ listing rules (state pile.old) list.now) }
-    ensures next { OnOk result (state pile.new ≡ run_next rules (state pile.old) list.now) }
+    ensures text { IfOk result (λ s. string_bytes s ≡ listing L.Level.rules (L.Level.state pile.old) list.now) }
+    ensures next { OnOk result (L.Level.state pile.new ≡ run_next L.Level.rules (L.Level.state pile.old) list.now) }
 {
     let mut text = String::from_str(heap, "indexrun 1\n")?;
     let summary = match check_list(list) {
@@ -36,9 +36,9 @@ fn run_lines<L: Level>(
     list: &[u8],
     text: &mut String,
 ) -> Result<u32, AllocError>
-    ensures text { OnOk result (string_bytes text.new ≡ string_bytes text.old ++ request_lines rules (state pile.old) 1 (asks list.now)) }
-    ensures clocks { IfOk result (λ sum. sum ≡ topped (all_clocks rules (state pile.old) (asks list.now))) }
-    ensures next { OnOk result (state pile.new ≡ after rules (state pile.old) (calls (asks list.now))) }
+    ensures text { OnOk result (string_bytes text.new ≡ string_bytes text.old ++ request_lines L.Level.rules (L.Level.state pile.old) 1 (asks list.now)) }
+    ensures clocks { IfOk result (λ sum. sum ≡ topped (all_clocks L.Level.rules (L.Level.state pile.old) (asks list.now))) }
+    ensures next { OnOk result (L.Level.state pile.new ≡ after L.Level.rules (L.Level.state pile.old) (calls (asks list.now))) }
 {
     let mut number = 0;
     let mut clocks = 0u32;

@@ -1,4 +1,7 @@
 // Runs a request list from standard input on a fresh pile, and prints what became of each request.
+
+#![tactic(auto)]
+
 mod lines;
 mod listing;
 mod program;

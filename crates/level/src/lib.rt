@@ -1,5 +1,7 @@
 // A level of memory: the calls that it takes, what it means, and what every run of it keeps.
 
+#![tactic(auto)]
+
 mod laws;
 mod level;
 mod refusal;

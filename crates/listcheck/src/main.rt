@@ -1,5 +1,8 @@
 // Reads a request list from standard input and prints an account of it, so that a planner can check a list before it
 // goes to a drive.
+
+#![tactic(auto)]
+
 mod account;
 mod lines;
 

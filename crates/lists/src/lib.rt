@@ -1,5 +1,7 @@
 // Runs request lists on a pile of any kind.
 
+#![tactic(auto)]
+
 mod requests;
 mod runs;
 

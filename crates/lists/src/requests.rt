@@ -9,10 +9,10 @@ use words::{CallRefusal, CallResult, Operation};
 
 // Puts a request to a level, and tells what became of it.
 pub fn serve<L: Level>(pile: &mut L, operation: Operation) -> CallResult
-    ensures answer { answer_told result ≡ capped (rules.step (state pile.old) (call operation)).answer }
-    ensures word { result_word result ≡ word_of operation (capped (rules.step (state pile.old) (call operation)).answer) }
-    ensures next { state pile.new ≡ (rules.step (state pile.old) (call operation)).next }
-    ensures lent { lent pile.new ≡ lent pile.old }
+    ensures answer { answer_told result ≡ capped (L.Level.rules.step (L.Level.state pile.old) (call operation)).answer }
+    ensures word { result_word result ≡ word_of operation (capped (L.Level.rules.step (L.Level.state pile.old) (call operation)).answer) }
+    ensures next { L.Level.state pile.new ≡ (L.Level.rules.step (L.Level.state pile.old) (call operation)).next }
+    ensures lent { L.Level.lent pile.new ≡ L.Level.lent pile.old }
 {
     let answer = match operation {
         Operation::Read { address } => pile.read(address),

@@ -18,11 +18,11 @@ pub fn run_list<L: Level>(
     list: &[u8],
     results: &mut [u8],
 ) -> Result<ListSummary, Refusal>
-    ensures told { told_run result ≡ (ran rules (state pile.old) list.now results.old).told }
-    ensures next { state pile.new ≡ (ran rules (state pile.old) list.now results.old).next }
-    ensures results { results.new ≡ (ran rules (state pile.old) list.now results.old).results }
-    ensures lent { lent pile.new ≡ lent pile.old }
-    ensures array { LikeArray rules }
+    ensures told { told_run result ≡ (ran L.Level.rules (L.Level.state pile.old) list.now results.old).told }
+    ensures next { L.Level.state pile.new ≡ (ran L.Level.rules (L.Level.state pile.old) list.now results.old).next }
+    ensures results { results.new ≡ (ran L.Level.rules (L.Level.state pile.old) list.now results.old).results }
+    ensures lent { L.Level.lent pile.new ≡ L.Level.lent pile.old }
+    ensures array { LikeArray L.Level.rules }
 {
     let summary = match check_list(list) {
         Ok(summary) => summary,
@@ -38,9 +38,9 @@ pub fn run_list<L: Level>(
 // Serves the requests of a list in turn. Each result goes behind the one before.
 fn serve_all<L: Level>(pile: &mut L, list: &[u8], results: &mut [u8])
     requires { 8 * length (asks list.now) ≤ length results.old }
-    ensures next { state pile.new ≡ after rules (state pile.old) (calls (asks list.now)) }
-    ensures results { results.new ≡ result_words rules (state pile.old) (asks list.now) ++ drop (8 * length (asks list.now)) results.old }
-    ensures lent { lent pile.new ≡ lent pile.old }
+    ensures next { L.Level.state pile.new ≡ after L.Level.rules (L.Level.state pile.old) (calls (asks list.now)) }
+    ensures results { results.new ≡ result_words L.Level.rules (L.Level.state pile.old) (asks list.now) ++ drop (8 * length (asks list.now)) results.old }
+    ensures lent { L.Level.lent pile.new ≡ L.Level.lent pile.old }
 {
     let mut end = 0;
     for word in Reader::new(list) {

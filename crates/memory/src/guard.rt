@@ -25,7 +25,7 @@ const BLOCKS: u32 = 16384;
 
 // Whether the level below has the address: it then takes a read of it.
 fn reaches<L: Level>(below: &L, address: u16) -> bool
-    ensures { rules.fresh (state below.now) → result ≡ nat_lt address (rules.size (state below.now)) }
+    ensures { L.Level.rules.fresh (L.Level.state below.now) → result ≡ nat_lt address (L.Level.rules.size (L.Level.state below.now)) }
 {
     below.query(address, Access::Read).is_none()
 }
@@ -33,7 +33,7 @@ fn reaches<L: Level>(below: &L, address: u16) -> bool
 impl<L: Level> Guard<L> {
     // Whether a guard can be made of these. One that is made of anything else has no addresses.
     pub fn check(below: &L, first: u16, count: u16) -> Result<(), GuardRefusal>
-        ensures { rules.fresh (state below.now) → guard_number result ≡ guard_check first count (rules.size (state below.now)) }
+        ensures { L.Level.rules.fresh (L.Level.state below.now) → guard_number result ≡ guard_check first count (L.Level.rules.size (L.Level.state below.now)) }
     {
         let end = first as u32 + count as u32;
         if count == 0 {
@@ -49,7 +49,7 @@ impl<L: Level> Guard<L> {
         ensures first { result.first ≡ first }
         ensures count { result.count ≡ count }
         ensures below { result.below ≡ below }
-        ensures fresh { rules.fresh (state below) → (guard_rules rules).fresh (guard_state state result) }
+        ensures fresh { L.Level.rules.fresh (L.Level.state below) → (guard_rules L.Level.rules).fresh (guard_state L.Level.state result) }
     {
         let sound = Guard::check(&below, first, count).is_ok();
         Guard {
@@ -75,7 +75,7 @@ impl<L: Level> Guard<L> {
 
     // Whether the address is in the range.
     fn covers(&self, address: u16) -> bool
-        ensures { result ≡ in_range rules (guard_state state self.now) (block address) }
+        ensures { result ≡ in_range L.Level.rules (guard_state L.Level.state self.now) (block address) }
     {
         let block = address as u32 / 4;
         self.first as u32 <= block && block < self.first as u32 + self.count as u32

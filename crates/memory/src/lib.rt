@@ -1,5 +1,7 @@
 // The levels at the bottom of a pile, plain memory, two modules and an image, and the guard over any level.
 
+#![tactic(auto)]
+
 mod bytes;
 mod check;
 mod guard;

@@ -1,5 +1,7 @@
 // A write-back cache over any level of memory, with any mapping and any policy.
 
+#![tactic(auto)]
+
 mod entry;
 mod laws;
 

@@ -1,6 +1,8 @@
 // A pile in use. While it runs it takes every call; settled, it may only be read, resumed or ended, and every byte of the
 // lowest memory is the byte seen. Each run comes with a save slip, which only settling uses up.
 
+#![tactic(auto)]
+
 mod account;
 mod running;
 mod settled;

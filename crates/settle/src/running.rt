@@ -33,10 +33,10 @@ fn clocks_of(answer: Result<Done, CallRefusal>) -> u32
 impl<L: Level> Running<L> {
     // The slip is owed until the run is settled. The contract says what the two counts tell.
     pub fn start(pile: L) -> (Running<L>, SaveSlip)
-        ensures session { held L.Level result.0 ≡ begun (state pile) }
+        ensures session { held L.Level result.0 ≡ begun (L.Level.state pile) }
         ensures slip { result.1.spent ≡ false }
-        ensures lent { lent result.0.pile ≡ lent pile }
-        ensures counts { Counts rules }
+        ensures lent { L.Level.lent result.0.pile ≡ L.Level.lent pile }
+        ensures counts { Counts L.Level.rules }
     {
         let running = Running {
             pile,
@@ -57,7 +57,7 @@ impl<L: Level> Running<L> {
     }
 
     pub fn read(&mut self, address: u16) -> Result<Done, CallRefusal>
-        ensures answer { reported result ≡ capped (rules.step (state self.old.pile) (read_call address)).answer }
+        ensures answer { reported result ≡ capped (L.Level.rules.step (L.Level.state self.old.pile) (read_call address)).answer }
         ensures steps { Steps L.Level self.old (read_call address) self.new }
     {
         let answer = self.pile.read(address);
@@ -66,7 +66,7 @@ impl<L: Level> Running<L> {
     }
 
     pub fn write(&mut self, address: u16, byte: u8) -> Result<Done, CallRefusal>
-        ensures answer { reported result ≡ capped (rules.step (state self.old.pile) (write_call address byte)).answer }
+        ensures answer { reported result ≡ capped (L.Level.rules.step (L.Level.state self.old.pile) (write_call address byte)).answer }
         ensures steps { Steps L.Level self.old (write_call address byte) self.new }
     {
         let answer = self.pile.write(address, byte);
@@ -75,7 +75,7 @@ impl<L: Level> Running<L> {
     }
 
     pub fn return_block(&mut self, address: u16) -> Result<Done, CallRefusal>
-        ensures answer { reported result ≡ capped (rules.step (state self.old.pile) (return_block_call address)).answer }
+        ensures answer { reported result ≡ capped (L.Level.rules.step (L.Level.state self.old.pile) (return_block_call address)).answer }
         ensures steps { Steps L.Level self.old (return_block_call address) self.new }
     {
         let answer = self.pile.return_block(address);
@@ -84,7 +84,7 @@ impl<L: Level> Running<L> {
     }
 
     pub fn return_all(&mut self) -> u32
-        ensures answer { result ≡ topped (cost (rules.step (state self.old.pile) return_all_call).answer) }
+        ensures answer { result ≡ topped (cost (L.Level.rules.step (L.Level.state self.old.pile) return_all_call).answer) }
         ensures steps { Steps L.Level self.old return_all_call self.new }
     {
         let clocks = self.pile.return_all();
@@ -95,7 +95,7 @@ impl<L: Level> Running<L> {
     // A last full return, which the account counts too. The contract says what then holds until the pile is resumed.
     pub fn settle(mut self, slip: SaveSlip) -> (Settled<L>, Account)
         ensures settles { Settles L.Level self result.0 result.1 }
-        ensures rests { Rests rules }
+        ensures rests { Rests L.Level.rules }
     {
         let _ = self.return_all();
         slip.spend();

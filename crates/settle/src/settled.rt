@@ -18,18 +18,18 @@ pub struct Settled<L> {
 
 impl<L: Level> Settled<L> {
     pub fn read(&mut self, address: u16) -> Result<Done, CallRefusal>
-        ensures answer { reported result ≡ capped (rules.step (state self.old.pile) (read_call address)).answer }
-        ensures next { state self.new.pile ≡ (rules.step (state self.old.pile) (read_call address)).next }
-        ensures lent { lent self.new.pile ≡ lent self.old.pile }
+        ensures answer { reported result ≡ capped (L.Level.rules.step (L.Level.state self.old.pile) (read_call address)).answer }
+        ensures next { L.Level.state self.new.pile ≡ (L.Level.rules.step (L.Level.state self.old.pile) (read_call address)).next }
+        ensures lent { L.Level.lent self.new.pile ≡ L.Level.lent self.old.pile }
     {
         self.pile.read(address)
     }
 
     // The counts of the new run begin at 0 again, and its slip is a new one.
     pub fn resume(self) -> (Running<L>, SaveSlip)
-        ensures session { held L.Level result.0 ≡ begun (state self.pile) }
+        ensures session { held L.Level result.0 ≡ begun (L.Level.state self.pile) }
         ensures slip { result.1.spent ≡ false }
-        ensures lent { lent result.0.pile ≡ lent self.pile }
+        ensures lent { L.Level.lent result.0.pile ≡ L.Level.lent self.pile }
     {
         Running::start(self.end())
     }

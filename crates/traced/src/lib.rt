@@ -1,6 +1,8 @@
 // A memory as a builder writes one, in a crate of its own: whatever keeps the meaning of a level can be put under a pile,
 // and nothing above it needs a new proof.
 
+#![tactic(auto)]
+
 ghost use Rattle.std.specs.Prelude.{◌≡◌};
 ghost use Rattle.memory.specs.Plains.{plain_made};
 ghost use Rattle.traced.specs.States.{watched};

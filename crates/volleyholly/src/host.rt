@@ -12,10 +12,10 @@ use words::Refusal;
 
 // Runs a list, and returns everything if it was taken. It tells the number of the refusal, or 0.
 fn run_and_return<L: Level>(pile: &mut L, list: &[u8], results: &mut [u8]) -> u32
-    ensures code { result ≡ (run_and_return rules (state pile.old) list.now results.old).code }
-    ensures next { state pile.new ≡ (run_and_return rules (state pile.old) list.now results.old).next }
-    ensures results { results.new ≡ (run_and_return rules (state pile.old) list.now results.old).results }
-    ensures lent { lent pile.new ≡ lent pile.old }
+    ensures code { result ≡ (run_and_return L.Level.rules (L.Level.state pile.old) list.now results.old).code }
+    ensures next { L.Level.state pile.new ≡ (run_and_return L.Level.rules (L.Level.state pile.old) list.now results.old).next }
+    ensures results { results.new ≡ (run_and_return L.Level.rules (L.Level.state pile.old) list.now results.old).results }
+    ensures lent { L.Level.lent pile.new ≡ L.Level.lent pile.old }
 {
     match run_list(pile, list, results) {
         Ok(_) => {

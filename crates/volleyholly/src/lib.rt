@@ -1,5 +1,7 @@
 // The call by which the firmware of a drive, in C, runs a request list.
 
+#![tactic(auto)]
+
 mod host;
 mod piles;
 

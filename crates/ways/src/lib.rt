@@ -1,4 +1,7 @@
 // Where a cache of eight entries keeps its blocks, and which entry it gives up next.
+
+#![tactic(auto)]
+
 mod block;
 mod mapping;
 mod policy;

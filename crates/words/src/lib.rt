@@ -1,5 +1,7 @@
 // The words that a drive and this library exchange: requests, results and refusals.
 
+#![tactic(auto)]
+
 mod list;
 mod reader;
 mod refusal;

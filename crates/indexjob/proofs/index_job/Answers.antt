@@ -4,17 +4,17 @@ use Rattle.indexjob.proofs.index_job.Goals as goal
 -- the lent memory is the same from step to step, here from the last back to the first
 pub returns : goal.returns
 returns g c =
-    ap g.L.Level.lent c.into-below-memory.ensures
-    ∙ c.into-below.ensures.lent
+    ap g.L.Level.lent c.into_below-memory.ensures
+    ∙ c.into_below.ensures.lent
     ∙ ap (λ pile. g.L.Level.lent pile.below.below) c.end.ensures
     ∙ c.settle-settled-2.ensures.settles.lent
-    ∙ c.read-all-angles.ensures
+    ∙ c.read_all-angles.ensures
     ∙ c.teach-corrected.ensures.lent
     ∙ c.resume-running.ensures.lent
     ∙ c.settle-settled.ensures.settles.lent
     ∙ c.write-calibration.ensures.steps.lent
-    ∙ c.index-round-moves.ensures
-    ∙ c.teach-all-taught.ensures
+    ∙ c.index_round-moves.ensures
+    ∙ c.teach_all-taught.ensures
     ∙ c.start-running.ensures.lent
     ∙ c.over-pile.ensures.lent
     ∙ ap g.L.Level.lent c.new.ensures.below

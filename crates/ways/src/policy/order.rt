@@ -12,14 +12,14 @@ use crate::slot::Slot;
 
 // The row for a table whose entries are empty.
 pub(super) fn fresh_row<M: Mapping>() -> [u8; 8]
-    ensures { orders_of shape result ≡ fresh shape.sets shape.ways }
+    ensures { orders_of M.Mapping.shape result ≡ fresh M.Mapping.shape.sets M.Mapping.shape.ways }
 {
     new_row(M::way_count())
 }
 
 // The slot of the last way of a block's set.
 pub(super) fn last_slot<M: Mapping>(row: &[u8; 8], block: Block) -> Slot
-    ensures { Victim shape (λ set. slice_index_or (orders_of shape row.now) set []) block.number result.index }
+    ensures { Victim M.Mapping.shape (λ set. slice_index_or (orders_of M.Mapping.shape row.now) set []) block.number result.index }
 {
     let (set, _) = M::split(block);
     let ways = M::way_count();
@@ -29,7 +29,7 @@ pub(super) fn last_slot<M: Mapping>(row: &[u8; 8], block: Block) -> Slot
 
 // The way of a slot goes first in its set.
 pub(super) fn put_first<M: Mapping>(row: &mut [u8; 8], slot: Slot)
-    ensures { orders_of shape row.new ≡ at_slot shape first_in (orders_of shape row.old) slot.index }
+    ensures { orders_of M.Mapping.shape row.new ≡ at_slot M.Mapping.shape first_in (orders_of M.Mapping.shape row.old) slot.index }
 {
     let (base, way) = place::<M>(slot);
     to_front(row, base, M::way_count(), way);
@@ -37,7 +37,7 @@ pub(super) fn put_first<M: Mapping>(row: &mut [u8; 8], slot: Slot)
 
 // The way of a slot goes last in its set.
 pub(super) fn put_last<M: Mapping>(row: &mut [u8; 8], slot: Slot)
-    ensures { orders_of shape row.new ≡ at_slot shape last_in (orders_of shape row.old) slot.index }
+    ensures { orders_of M.Mapping.shape row.new ≡ at_slot M.Mapping.shape last_in (orders_of M.Mapping.shape row.old) slot.index }
 {
     let (base, way) = place::<M>(slot);
     to_back(row, base, M::way_count(), way);
@@ -45,10 +45,10 @@ pub(super) fn put_last<M: Mapping>(row: &mut [u8; 8], slot: Slot)
 
 // The first place of a slot's set, and the slot's way.
 fn place<M: Mapping>(slot: Slot) -> (usize, usize)
-    ensures base { result.0 ≡ set_of shape slot.index * shape.ways }
-    ensures way { result.1 ≡ way_of shape slot.index }
-    ensures within { result.0 + shape.ways ≤ 8 }
-    ensures below { result.1 < shape.ways }
+    ensures base { result.0 ≡ set_of M.Mapping.shape slot.index * M.Mapping.shape.ways }
+    ensures way { result.1 ≡ way_of M.Mapping.shape slot.index }
+    ensures within { result.0 + M.Mapping.shape.ways ≤ 8 }
+    ensures below { result.1 < M.Mapping.shape.ways }
 {
     let ways = M::way_count();
     let index = slot.index();

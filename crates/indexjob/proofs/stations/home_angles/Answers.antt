@@ -16,5 +16,5 @@ one_more xs i x wanted long lt below here =
 
 pub loop-station-preserved : goal.loop-station-preserved
 loop-station-preserved g c =
-    one_more c.loop-station.angles c.loop-station.station c.from-bytes.result (λ k. angle_at (g.B.Bytes.content c.args.bytes.now) (16 * k))
+    one_more c.loop-station.angles c.loop-station.station c.from_bytes.result (λ k. angle_at (g.B.Bytes.content c.args.bytes.now) (16 * k))
     c.loop-station.invariant.0 (omega arith) c.loop-station.invariant.1 (search rules)

@@ -9,9 +9,9 @@ returns-in-Err g c =
     let list = c.args.list.now in
     let e = c.in-Err.refusal in
     let is = sym c.in-Err.ensures.value in
-    let whole : string_bytes c.push-str.new.self ≡ string_bytes c.in-ok-text.text ++ string_bytes c.in-ok-refusal-line.field-0 = search rules in
+    let whole : string_bytes c.push_str.new.self ≡ string_bytes c.in_ok-text.text ++ string_bytes c.in_ok-refusal_line.field-0 = search rules in
     record {
-      text = refused_text R s list e is _ _ _ c.in-ok-text.ensures.ok c.in-ok-refusal-line.ensures whole;
+      text = refused_text R s list e is _ _ _ c.in_ok-text.ensures.ok c.in_ok-refusal_line.ensures whole;
       next = refused_next R s list e is;
     }
 
@@ -24,9 +24,9 @@ returns g c =
     let w = c.in-Ok.summary.waits in
     let is = sym c.in-Ok.ensures.value in
     let law = c.in-Ok.ensures.law in
-    let ran = c.in-ok-clocks.ensures in
-    let whole : string_bytes c.push-str-2.new.self ≡ string_bytes c.run_lines.new.text ++ string_bytes c.in-ok-end-line.field-0 = search rules in
+    let ran = c.in_ok-clocks.ensures in
+    let whole : string_bytes c.push_str-2.new.self ≡ string_bytes c.run_lines.new.text ++ string_bytes c.in_ok-end_line.field-0 = search rules in
     record {
-      text = taken_text R s list n w is c.in-ok-clocks.clocks law.1 law.3 ran.clocks (string_bytes c.in-ok-text.text) (string_bytes c.run_lines.new.text) (string_bytes c.in-ok-end-line.field-0) _ c.in-ok-text.ensures.ok ran.text c.in-ok-end-line.ensures whole;
+      text = taken_text R s list n w is c.in_ok-clocks.clocks law.1 law.3 ran.clocks (string_bytes c.in_ok-text.text) (string_bytes c.run_lines.new.text) (string_bytes c.in_ok-end_line.field-0) _ c.in_ok-text.ensures.ok ran.text c.in_ok-end_line.ensures whole;
       next = taken_next R s list n w is (g.L.Level.state c.run_lines.new.pile) ran.next;
     }

@@ -4,8 +4,8 @@ use Rattle.level.proofs.Arrays.{like_array}
 use Rattle.lists.proofs.Filled.{fewer, short_of_room}
 use Rattle.lists.proofs.runs.run_list.Goals as goal
 
-pub serve-all-requires : goal.serve-all-requires
-serve-all-requires g c = omega (arith, fewer (words c.args.list.now), c.in-Ok.ensures.law.1)
+pub serve_all-requires : goal.serve_all-requires
+serve_all-requires g c = omega (arith, fewer (words c.args.list.now), c.in-Ok.ensures.law.1)
 
 pub returns-in-Err : goal.returns-in-Err
 returns-in-Err g c = let array = like_array g.met.L.Level.meaning in search rules

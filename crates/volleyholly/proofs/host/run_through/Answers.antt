@@ -9,7 +9,7 @@ returns g c =
     let over = c.over-pile.ensures.state in
     let ran = c.run_and_return.ensures in
     record {
-      memory = memory_there g.M.Mapping.shape g.P.Policy.orders (g.B.Bytes.content c.args.memory) c.args.figure c.args.list.now c.args.results.now _ _ made over _ _ _ ran.next c.into-below.ensures.state (ap g.B.Bytes.content c.into-bytes.ensures);
+      memory = memory_there g.M.Mapping.shape g.P.Policy.orders (g.B.Bytes.content c.args.memory) c.args.figure c.args.list.now c.args.results.now _ _ made over _ _ _ ran.next c.into_below.ensures.state (ap g.B.Bytes.content c.into_bytes.ensures);
       results = results_there g.M.Mapping.shape g.P.Policy.orders (g.B.Bytes.content c.args.memory) c.args.figure c.args.list.now c.args.results.now _ _ made over _ ran.results;
       code = code_there g.M.Mapping.shape g.P.Policy.orders (g.B.Bytes.content c.args.memory) c.args.figure c.args.list.now c.args.results.now _ _ made over _ ran.code;
       lent = search rules;

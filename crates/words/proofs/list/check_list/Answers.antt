@@ -4,8 +4,8 @@ use Rattle.words.specs.Summaries.{checked, told_check}
 use Rattle.words.proofs.Justified.{ends_at, justified}
 use Rattle.words.proofs.list.check_list.Goals as goal
 
-pub returns-then-not-is-request : goal.returns-then-not-is-request
-returns-then-not-is-request c =
+pub returns-then-not-is_request : goal.returns-then-not-is_request
+returns-then-not-is_request c =
     let e : told_check (Err (Layout c.in-Some.word.place)) ≡ checked c.args.list.now = search (rules, ends_at) in
     record { value = e; law = justified c.args.list.now (Err (Layout c.in-Some.word.place)) e }
 

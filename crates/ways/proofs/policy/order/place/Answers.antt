@@ -3,7 +3,7 @@ use Rattle.ways.proofs.policy.order.place.Goals as goal
 
 pub returns : goal.returns
 returns g c =
-    let e = c.way-count-ways.ensures in
+    let e = c.way_count-ways.ensures in
     let i = c.index-index.ensures.value in
     let whole = g.met.M.Mapping.mapped.product in
     let k = set_below _ _ whole c.args.slot.index c.args.slot.within in

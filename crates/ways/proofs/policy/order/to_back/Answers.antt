@@ -5,13 +5,13 @@ use Rattle.ways.proofs.policy.order.to_back.Goals as goal
 
 pub returns-then-met-way : goal.returns-then-met-way
 returns-then-met-way c =
-    to_back_here c.args.ways c.loop-i.row c.loop-i.carried c.args.way c.way-at-met.result c.loop-i.invariant.0 c.args.base c.loop-i.i (omega arith) (omega arith) c.way-at-met.ensures.way c.if-met-way.true
+    to_back_here c.args.ways c.loop-i.row c.loop-i.carried c.args.way c.way_at-met.result c.loop-i.invariant.0 c.args.base c.loop-i.i (omega arith) (omega arith) c.way_at-met.ensures.way c.if-met-way.true
     ∙ c.loop-i.invariant.1
 
 pub loop-i-preserved : goal.loop-i-preserved
 loop-i-preserved c = (
-  c.way-at-met.ensures.below,
-  to_back_past c.args.ways c.loop-i.row c.loop-i.carried c.args.way c.way-at-met.result c.loop-i.invariant.0 c.args.base c.loop-i.i (omega arith) (omega arith) c.way-at-met.ensures.way c.if-met-way.false
+  c.way_at-met.ensures.below,
+  to_back_past c.args.ways c.loop-i.row c.loop-i.carried c.args.way c.way_at-met.result c.loop-i.invariant.0 c.args.base c.loop-i.i (omega arith) (omega arith) c.way_at-met.ensures.way c.if-met-way.false
       ∙ c.loop-i.invariant.1,
 )
 
