@@ -121,7 +121,7 @@ pub fn index_round<L: Level>(running: &mut Running<L>) -> Result<[Move; STATIONS
 
 // The angles as the bytes of a memory hold them.
 pub fn home_angles<B: Bytes>(bytes: &B) -> Angles
-    ensures { (k : ℕ) → k < 8 → (slice_index_or result k origin).tenths ≡ angle_at (content bytes.now) (16 * k) }
+    ensures { (k : ℕ) → k < 8 → (slice_index_or result k origin).tenths ≡ angle_at (B.Bytes.content bytes.now) (16 * k) }
 {
     let mut angles = [Angle { tenths: 0 }; STATIONS];
     for station in 0..STATIONS {

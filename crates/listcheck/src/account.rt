@@ -1,5 +1,5 @@
 ghost use Rattle.std.specs.Prelude.{◌≡◌, ◌+◌, ◌^◌, ◌<◌, List, ◌∷◌, IfOk, OnOk};
-ghost use Rattle.std.specs.BTreeSet.{contains, btree_set_len};
+ghost use Rattle.std.specs.BTreeSet.{contains, btree_set_len, IsOrdered};
 ghost use Rattle.words.specs.Lists.{words};
 ghost use Rattle.listcheck.specs.Account.{block as block_of, count, distinct_blocks, new_blocks, operations, reading, returning, writing};
 ghost use Rattle.std.specs.Ordering.{nat_cmp};
@@ -60,6 +60,8 @@ impl Account {
 
 // Puts the block that an operation names among those named before it.
 fn name_block(named: &mut BTreeSet<u16>, operation: Operation) -> Result<(), AllocError>
+    requires { IsOrdered nat_cmp named.old }
+    ensures order { IsOrdered nat_cmp named.new }
     ensures new { OnOk result ((os : List Operation) → btree_set_len named.new + new_blocks (contains nat_cmp named.new) os ≡ btree_set_len named.old + new_blocks (contains nat_cmp named.old) (operation ∷ os)) }
 {
     if let Some(block) = block(operation) {

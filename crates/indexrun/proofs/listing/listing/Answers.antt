@@ -9,9 +9,9 @@ returns-in-Err g c =
     let list = c.args.list.now in
     let e = c.in-Err.refusal in
     let is = sym c.in-Err.ensures.value in
-    let whole : string_bytes c.push_str.new.self ≡ string_bytes c.in_ok-text.text ++ string_bytes c.in_ok-refusal_line.field-0 = search rules in
+    let whole : string_bytes c.push_str.new.self ≡ string_bytes c.in_ok-text.text ++ string_bytes c.in_ok-refusal_line-in-Err.field-0 = search rules in
     record {
-      text = refused_text R s list e is _ _ _ c.in_ok-text.ensures.ok c.in_ok-refusal_line.ensures whole;
+      text = refused_text R s list e is _ _ _ c.in_ok-text.ensures.ok c.in_ok-refusal_line-in-Err.ensures whole;
       next = refused_next R s list e is;
     }
 
