@@ -1,5 +1,5 @@
 -- One turn of the eviction of every entry.
-use Rattle.std.proofs.Common.{◌≡◌, ℕ, suc, ◌+◌, ◌-◌, ◌<◌, ◌≤◌, min, sym, ◌∙◌, add-one, arith}
+use Rattle.std.proofs.Common.{◌≡◌, ℕ, suc, ◌+◌, ◌-◌, ◌<◌, ◌≤◌, sym, ◌∙◌, add-one, arith}
 use Rattle.level.specs.Level.{Rules}
 use Rattle.ways.specs.Ways.{Shape, Orders}
 use Rattle.pile.specs.Cache.{Cached, evict_at, evict_all}

@@ -1,5 +1,5 @@
 -- One line more behind the text, and one request less to serve.
-use Rattle.std.proofs.Common.{◌≡◌, ℕ, ◌+◌, min, List, [], ◌∷◌, ◌++◌, sym, refl, ap, ◌∙◌, append_assoc, arith}
+use Rattle.std.proofs.Common.{◌≡◌, ℕ, ◌+◌, min, List, ◌∷◌, ◌++◌, sym, ap, ◌∙◌, append_assoc, arith}
 use Rattle.words.specs.declared.request.Operation.{Operation}
 use Rattle.level.specs.Level.{Answer, Rules, capped, clocks}
 use Rattle.level.specs.Listed.{after}

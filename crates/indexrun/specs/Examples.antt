@@ -1,5 +1,5 @@
 -- Worked examples of what the program prints.
-use Rattle.std.specs.Prelude.{◌≡◌, ℕ, List, [], ◌∷◌, codes}
+use Rattle.std.specs.Prelude.{◌≡◌, [], ◌∷◌, codes}
 use Rattle.indexrun.specs.Program.{program_text}
 
 pub record WorkedExamples : Type 0 where

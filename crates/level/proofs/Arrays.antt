@@ -1,13 +1,13 @@
 -- A level that has a meaning answers as an array of bytes does.
-use Rattle.std.proofs.Common.{◌≡◌, ℕ, ◌<◌, Bool, true, false, cond, eqb, ◌⊎◌, List, [], ◌∷◌, length, get_or, set, sym, refl, ap, ◌∙◌, inl, inr, arith, length-set, get_or-set_other, get_or-set_same, true-eqb, false-eqb}
-use Rattle.std.proofs.lemmas.Bool.{both_ways, eq-eqb, ne_eqb, cases_eq}
-use Rattle.level.specs.Level.{Call, Answer, Rules, address, taken, value, block}
+use Rattle.std.proofs.Common.{◌≡◌, ℕ, ◌<◌, Bool, true, false, cond, eqb, List, [], ◌∷◌, get_or, set, sym, refl, ap, ◌∙◌, inl, inr, arith, length-set, get_or-set_other, get_or-set_same, true-eqb, false-eqb}
+use Rattle.std.proofs.lemmas.Bool.{cases_eq}
+use Rattle.level.specs.Level.{Call, Answer, Rules, address, taken, block}
 use Rattle.level.specs.Level.Call.{read, write, return_block, return_all}
 use Rattle.level.specs.Level.Answer.{accepted, refused}
 use Rattle.level.specs.Runs.{Log, Run, logged}
 use Rattle.level.specs.Runs.Run.{called}
 use Rattle.level.specs.Meaning.{cause, Judged, Kept, Meaning, given, Accepts}
-use Rattle.level.specs.Arrays.{AsArray, array_next, array_after, Shows, ArrayRun, LikeArray}
+use Rattle.level.specs.Arrays.{AsArray, array_next, Shows, ArrayRun, LikeArray}
 use Rattle.level.proofs.Answers.{accepted_cause, judged_taken, below_from, free_from}
 
 -- a call that has a cause is refused

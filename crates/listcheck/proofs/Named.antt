@@ -1,9 +1,9 @@
 -- One block more among those named.
-use Rattle.std.proofs.Common.{◌≡◌, ℕ, ◌+◌, ◌<◌, Bool, true, false, cond, not, ◌||◌, eqb, ◌⊎◌, List, [], ◌∷◌, Some, None, Option, Ordering, sym, refl, ap, ◌∙◌, inl, inr, arith}
+use Rattle.std.proofs.Common.{◌≡◌, ℕ, ◌+◌, Bool, true, false, cond, not, ◌||◌, eqb, List, [], ◌∷◌, Some, None, sym, refl, ap, ◌∙◌, inl, inr, arith}
 use Rattle.std.specs.BTreeSet.{contains, Updates, btree_set_len}
 use Rattle.std.specs.Cmp.{unsigned_tied}
 use Rattle.std.specs.BTreeSet.{BTreeSet}
-use Rattle.std.specs.Ordering.{MatchOrdering, nat_cmp}
+use Rattle.std.specs.Ordering.{nat_cmp}
 use Rattle.std.proofs.lemmas.Bool.{eq-eqb, ne_eqb, cases_eq}
 use Rattle.words.specs.declared.request.Operation.{Operation}
 use Rattle.listcheck.specs.Account.{block, new_blocks}
@@ -31,5 +31,5 @@ named_more s n b new put added long o e os =
     let one : cond {A = ℕ} new 1 0 ≡ cond (contains nat_cmp s b) 0 1 = rw added (elim (contains nat_cmp s b) as (λ x. cond {A = ℕ} (not x) 1 0 ≡ cond x 0 1) [ true ↦ refl | false ↦ refl ]) in
     let rest = same_before (contains nat_cmp n) (λ c. eqb c b || contains nat_cmp s c) (now_has s n b put) os in
     let step : new_blocks (contains nat_cmp s) (o ∷ os) ≡ cond (contains nat_cmp s b) 0 1 + new_blocks (λ c. eqb c b || contains nat_cmp s c) os =
-        ap (λ x. elim x [ Some b ↦ cond (contains nat_cmp s b) 0 1 + new_blocks (λ c. eqb c b || contains nat_cmp s c) os | None ↦ new_blocks (contains nat_cmp s) os ]) e in
+    ap (λ x. elim x [ Some b ↦ cond (contains nat_cmp s b) 0 1 + new_blocks (λ c. eqb c b || contains nat_cmp s c) os | None ↦ new_blocks (contains nat_cmp s) os ]) e in
     omega (arith, long, one, rest, step)

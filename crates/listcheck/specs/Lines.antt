@@ -1,5 +1,5 @@
 -- The lines of the printed account.
-use Rattle.std.specs.Prelude.{ℕ, List, [], ◌∷◌, ◌++◌, codes, decimal, slice_index}
+use Rattle.std.specs.Prelude.{ℕ, List, ◌++◌, codes, decimal, slice_index}
 use Rattle.words.specs.declared.list.ListSummary.{ListSummary}
 use Rattle.words.specs.declared.request.Operation.{Operation}
 use Rattle.words.specs.declared.request.Operation.TheVariants.{Read, Write, ReturnBlock, ReturnAll}

@@ -1,13 +1,11 @@
 -- The query of a read tells whether a level has the address.
-use Rattle.std.proofs.Common.{◌≡◌, ℕ, Bool, true, false, cond, ltb, [], is_some, Some, None, Option, sym, refl, ap, ◌∙◌, arith}
-use Rattle.words.specs.declared.refusal.CallRefusal.{CallRefusal}
+use Rattle.std.proofs.Common.{◌≡◌, ℕ, Bool, true, false, cond, ltb, [], sym, refl, ap, ◌∙◌, arith}
 use Rattle.level.specs.declared.level.Access.TheVariants.{Read}
 use Rattle.level.specs.Level.{Answer, Rules, taken}
 use Rattle.level.specs.Level.Call.{read}
 use Rattle.level.specs.Level.Answer.{accepted, refused}
 use Rattle.level.specs.Runs.Run.{begun}
 use Rattle.level.specs.Meaning.{Judged, Meaning, verdict}
-use Rattle.level.specs.Told.{reported_query}
 
 -- the empty run is judged as every run is
 pub asked_read : {S : Type 0} {R : Rules S} → Meaning R → (s : S) → R.fresh s → (a : ℕ) → taken (R.ask s Read a) ≡ ltb a (R.size s)

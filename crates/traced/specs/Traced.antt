@@ -1,6 +1,6 @@
 -- A memory that remembers the addresses of its last four accesses. All else is as in plain memory.
 use Rattle.std.specs.Prelude.{ℕ, cond, List, [], ◌∷◌, nat_lt, slice_index}
-use Rattle.level.specs.Level.{Call, Outcome, Rules}
+use Rattle.level.specs.Level.{Call, Rules}
 use Rattle.level.specs.Level.Call.{read, write, return_block, return_all}
 use Rattle.level.specs.Memory.{Plain, plain_put, plain_rules}
 

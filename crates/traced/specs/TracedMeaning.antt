@@ -1,6 +1,5 @@
 -- A memory that remembers has the meaning of a level: its bytes are those of plain memory.
-use Rattle.std.specs.Prelude.{◌≡◌, ℕ, refl}
-use Rattle.std.proofs.Common.{ap}
+use Rattle.std.specs.Prelude.{refl}
 use Rattle.std.proofs.lemmas.List.{length-set}
 use Rattle.level.specs.declared.level.Access.TheVariants.{Read, Write}
 use Rattle.level.specs.Level.Call.{read, write, return_block, return_all}
@@ -8,7 +7,7 @@ use Rattle.level.specs.Meaning.{Meaning}
 use Rattle.level.specs.Memory.{plain_put}
 use Rattle.level.proofs.MemoryMeaning.{Memory, memory_meaning}
 use Rattle.level.proofs.PlainMeaning.{plain_memory, plain_price}
-use Rattle.traced.specs.Traced.{Watched, traced_rules, after_access}
+use Rattle.traced.specs.Traced.{traced_rules, after_access}
 
 traced_memory : Memory traced_rules
 traced_memory = record {

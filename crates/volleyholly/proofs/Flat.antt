@@ -1,5 +1,5 @@
 -- A list that runs on a pile of the host call is answered as by an array of bytes.
-use Rattle.std.proofs.Common.{◌≡◌, ℕ, ◌<◌, Bool, true, false, cond, eqb, List, [], ◌∷◌, length, get_or, sym, refl, ap, ◌∙◌, subst, arith}
+use Rattle.std.proofs.Common.{◌≡◌, ℕ, ◌<◌, true, false, eqb, List, [], ◌∷◌, length, get_or, sym, refl, ◌∙◌, arith}
 use Rattle.std.proofs.lemmas.List.{same_lists, get_or_default}
 use Rattle.std.proofs.lemmas.Bool.{eq-eqb}
 use Rattle.level.specs.Level.{Call, Rules}
@@ -20,7 +20,7 @@ use Rattle.level.proofs.Checks.{memory_checks}
 use Rattle.level.proofs.Histories.{placed_now}
 use Rattle.level.proofs.PlainMeaning.{plain_meaning}
 use Rattle.pile.proofs.CacheMeaning.{cache_meaning}
-use Rattle.volleyholly.specs.Host.{ArrayLaw, AsArrayRun, fresh_pile, run_through}
+use Rattle.volleyholly.specs.Host.{ArrayLaw, fresh_pile, run_through}
 
 -- calls in a list are a run
 pub run_list : {S : Type 0} {R : Rules S} {s : S} (cs : List Call) (t : S) (log : Log) → Run R s log t → Run R s (log_of R t cs log) (after R t cs)

@@ -1,5 +1,5 @@
 -- First in, first out, and least recently used.
-use Rattle.std.specs.Prelude.{ℕ, cond, List, [], ◌∷◌, reverse, length, take, set, replicate, ◌==◌, slice_index_or, slice_set}
+use Rattle.std.specs.Prelude.{ℕ, cond, List, [], ◌∷◌, reverse, length, take, replicate, ◌==◌, slice_index_or, slice_set}
 use Rattle.ways.specs.Ways.{Orders, falling}
 
 -- an order without a way; were it there twice, only the first would go

@@ -1,5 +1,5 @@
 -- A list by its items.
-use Rattle.std.proofs.Common.{◌≡◌, ℕ, zero, suc, List, [], ◌∷◌, length, get_or, sym, refl, ap, ◌∙◌, subst}
+use Rattle.std.proofs.Common.{◌≡◌, ℕ, zero, suc, List, [], ◌∷◌, length, get_or, sym, refl, ap, ◌∙◌}
 
 -- the items at i, i + 1, .. , left of them
 abbrev pub items : ℕ → ℕ → List ℕ → List ℕ

@@ -1,12 +1,8 @@
 -- Every refusal of the library by its number and the values that it carries.
 use Rattle.std.specs.Prelude.{ℕ, List, [], ◌∷◌}
-use Rattle.words.specs.declared.refusal.CallRefusal.{CallRefusal}
 use Rattle.words.specs.declared.refusal.CallRefusal.TheVariants.{OutOfRange, ReadOnly}
-use Rattle.words.specs.declared.refusal.MemoryRefusal.{MemoryRefusal}
 use Rattle.words.specs.declared.refusal.MemoryRefusal.TheVariants.{Length, Figure}
-use Rattle.words.specs.declared.refusal.GuardRefusal.{GuardRefusal}
 use Rattle.words.specs.declared.refusal.GuardRefusal.TheVariants.{NoBlocks, BeyondSize}
-use Rattle.words.specs.declared.refusal.ListRefusal.{ListRefusal}
 use Rattle.words.specs.declared.refusal.ListRefusal.TheVariants.{Size, Layout}
 use Rattle.words.specs.declared.refusal.Refusal.{Refusal}
 use Rattle.words.specs.declared.refusal.Refusal.TheVariants.{Call, Memory, Guard, List as OfList, ResultsTooShort, UnknownPile}

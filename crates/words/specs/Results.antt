@@ -5,7 +5,7 @@ use Rattle.words.specs.declared.refusal.Refusal.TheVariants.{Call}
 use Rattle.words.specs.declared.result.CallResult.{CallResult}
 use Rattle.words.specs.declared.result.CallResult.TheVariants.{Accepted, Refused}
 use Rattle.words.specs.Layout.{joined, big_endian}
-use Rattle.words.specs.Refusals.{Told, told}
+use Rattle.words.specs.Refusals.{told}
 
 -- refused 1, cause 7, value 8, address 16, clocks 32
 abbrev pub packed : ℕ → ℕ → ℕ → ℕ → ℕ → List ℕ

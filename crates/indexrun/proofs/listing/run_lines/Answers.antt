@@ -1,5 +1,4 @@
-use Rattle.std.proofs.Common.{◌≡◌, ◌+◌, min, ◌∷◌, ◌++◌, string_bytes, refl, ap, ◌∙◌, arith, rules}
-use Rattle.std.proofs.lemmas.Slice.{pushed}
+use Rattle.std.proofs.Common.{◌≡◌, ◌+◌, min, ◌∷◌, ◌++◌, string_bytes, rules}
 use Rattle.level.specs.Level.{clocks}
 use Rattle.lists.specs.ListRuns.{asks}
 use Rattle.lists.specs.Results.{answer_told}

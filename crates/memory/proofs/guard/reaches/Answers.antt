@@ -1,4 +1,4 @@
-use Rattle.std.proofs.Common.{sym, ap, ◌∙◌, rules}
+use Rattle.std.proofs.Common.{rules}
 use Rattle.memory.proofs.Asking.{asked_read}
 use Rattle.memory.proofs.guard.reaches.Goals as goal
 

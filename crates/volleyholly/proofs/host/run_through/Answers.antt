@@ -1,4 +1,4 @@
-use Rattle.std.proofs.Common.{ap, ◌∙◌, rules}
+use Rattle.std.proofs.Common.{ap, rules}
 use Rattle.volleyholly.proofs.Flat.{array_law}
 use Rattle.volleyholly.proofs.Fresh.{code_there, memory_there, results_there}
 use Rattle.volleyholly.proofs.host.run_through.Goals as goal
