@@ -1,24 +1,29 @@
 # make demo     runs indexrun on its example list, an index job of a table, and the bench sheet
-# make test     proves every crate from nothing, tries every must-fail edit and the misuse that must not compile, runs the
-#               programs and the tests
+# make test     proves every crate from nothing, tries every must-fail edit, runs the programs and the tests, and tries the
+#               misuse that must not compile
 # make example  links the library to a C program, plainly and under the sanitizers of gcc, and runs both
 # make compare  holds the library and indexrun against a model of another hand, on random lists
 # make bench    times the library against that model
 
-.PHONY: demo test example compare bench library
+.PHONY: demo test example compare bench library indexrun
 
 demo:
-	rt check indexrun indexjob benchsheet
-	target/bin/indexrun < crates/indexrun/stdin
-	target/bin/indexjob
-	target/bin/benchsheet
+	cd crates/indexrun && rt run < stdin
+	cd crates/indexjob && rt run
+	cd crates/benchsheet && rt run
 
 test:
-	tests/misuse
-	rt ci
+	tests/gate
 
 library:
-	rt staticlib volleyholly
+	cd crates/volleyholly && rt lib
+	mkdir -p target/staticlib
+	cp crates/volleyholly/out/libvolleyholly.a target/staticlib/
+
+indexrun:
+	cd crates/indexrun && rt run < stdin
+	mkdir -p target/bin
+	cp crates/indexrun/out/indexrun target/bin/
 
 example: library
 	gcc -O2 -Wall -Wextra -std=c11 -I include examples/c/main.c -L target/staticlib -l volleyholly -o target/example
@@ -26,8 +31,7 @@ example: library
 	gcc -O2 -g -fsanitize=address,undefined -fno-sanitize-recover=all -Wall -Wextra -std=c11 -I include examples/c/main.c -L target/staticlib -l volleyholly -o target/example-sanitized
 	target/example-sanitized
 
-compare: library
-	rt check indexrun
+compare: library indexrun
 	rustc --edition 2021 -O compare/main.rs -L target/staticlib -l static=volleyholly -o target/compare
 	target/compare
 

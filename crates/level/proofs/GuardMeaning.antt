@@ -62,7 +62,7 @@ placed_over {n = n} same p = record {
   item = λ i l. p.item i l ∙ ap (λ h. get_or h (n i) 0) (sym (same i));
 }
 
--- ---- what a guard does with a call: it passes the call down or refuses it refuse-here
+-- ---- what a guard does with a call: it passes the call down or refuses it itself
 
 module _ {S : Type 0} (R : Rules S) where
   each : (t : Guarded S) (c : Call) (P : Outcome (Guarded S) → Type 0) → P (pass_down R t c) → ((n : ℕ) → (0 < n) × ((b : ℕ) → Returned c (refused n (address c) 0) b → ⊥) → P (refuse_here R t n (address c))) → P (guard_step R t c)
@@ -87,7 +87,7 @@ module _ {S : Type 0} (R : Rules S) where
     same : (i : ℕ) → Hist s log i ≡ Hist s lowlog i
     back : (n : ℕ → ℕ) → NeverBack under n → Back n
 
-  -- Never-back after one more call, with the outcome o
+  -- `NeverBack` after one more call, with the outcome o
   abbrev Back : {s : Guarded S} {log : Log} {t : Guarded S} → Run (guard_rules R) s log t → Call → Outcome (Guarded S) → (ℕ → ℕ) → Type 0
   Back {s} {log} {t} r c o n = (m : ℕ → ℕ) × NeverBack r m × Onward (guard_rules R) s log c o m n
 
@@ -190,7 +190,7 @@ module _ {S : Type 0} {R : Rules S} (h : Meaning R) (s t : Guarded S) (log : Log
   asked_write a v true false = deep_verdict (R.step t.below (write a v)).answer ∙ ap deeper (k.asks_write a v)
   asked_write a v false w = refl
 
-  -- a call that is accepted was pass-down down and accepted there
+  -- a call that is accepted was passed down and accepted there
   yes_below : (c : Call) → taken (deeper (R.step t.below c).answer) ≡ true → taken (R.step t.below c).answer ≡ true
   yes_below c e = sym (deep_taken (R.step t.below c).answer) ∙ e
 
