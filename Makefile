@@ -7,21 +7,24 @@
 
 .PHONY: demo test example compare bench library indexrun
 
+# Proves and builds a program where that is to be done, and runs it. What the proof says is shown only where it fails.
+run = (mkdir -p target && cd crates/$(1) && { rt run 2> ../../target/$(1).log || { cat ../../target/$(1).log; false; }; })
+
 demo:
-	cd crates/indexrun && rt run < stdin
-	cd crates/indexjob && rt run
-	cd crates/benchsheet && rt run
+	@$(call run,indexrun) < crates/indexrun/stdin
+	@$(call run,indexjob)
+	@$(call run,benchsheet)
 
 test:
 	tests/gate
 
 library:
-	cd crates/volleyholly && rt lib
-	mkdir -p target/staticlib
+	@mkdir -p target/staticlib
+	@cd crates/volleyholly && { rt lib > ../../target/library.log 2>&1 || { cat ../../target/library.log; false; }; }
 	cp crates/volleyholly/out/libvolleyholly.a target/staticlib/
 
 indexrun:
-	cd crates/indexrun && rt run < stdin
+	@$(call run,indexrun) < crates/indexrun/stdin
 	mkdir -p target/bin
 	cp crates/indexrun/out/indexrun target/bin/
 
