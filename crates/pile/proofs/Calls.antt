@@ -18,7 +18,7 @@ use Rattle.pile.proofs.Changes.{Same, out_cases, held_once}
 use Rattle.pile.proofs.Steps.{Good, good_out, good_load, load_held, went_cost, got_cost}
 use Rattle.pile.proofs.Below.{few, block_low}
 
--- `ready` and `put-out-block`, by what the look found
+-- `ready_entry` and `evict_block`, by what the look found
 abbrev pub ready_in : {S Q : Type 0} (R : Rules S) (m : Shape) (P : Orders Q) → Cached S Q → ℕ → Option ℕ → Ready S Q
 ready_in R m P u a o = elim o [ Some way ↦ hit_entry R m P u a way | None ↦ load_entry R m P u a ]
 
