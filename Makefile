@@ -1,6 +1,6 @@
 # make demo     runs indexrun on its example list, an index job of a table, and the bench sheet
-# make test     proves every crate from nothing, tries every must-fail edit, runs the programs and the tests, and tries the
-#               misuse that must not compile
+# make test     proves every crate, tries every must-fail edit, runs the programs and the tests, and tries the misuse that
+#               must not compile
 # make example  links the library to a C program, plainly and under the sanitizers of gcc, and runs both
 # make compare  holds the library and indexrun against a model of another hand, on random lists
 # make bench    times the library against that model
