@@ -3,7 +3,7 @@ use Rattle.std.specs.Prelude.{◌≡◌, ℕ, IfSome, Option}
 use Rattle.std.specs.Option.{option_map}
 use Rattle.level.specs.declared.level.Done.{Done}
 use Rattle.level.specs.declared.level.Level.{Ghosts as Level}
-use Rattle.level.specs.Level.{Outcome, Rules, block, capped}
+use Rattle.level.specs.Level.{Outcome, Rules, block, capped, topped}
 use Rattle.level.specs.Level.Answer.{accepted}
 use Rattle.ways.specs.declared.mapping.Mapping.{Ghosts as Mapping}
 use Rattle.ways.specs.declared.policy.Policy.{Ghosts as Policy}
@@ -12,7 +12,6 @@ use Rattle.ways.specs.Slots.{set_of, way_of}
 use Rattle.pile.specs.Cache.{Cached, Ready, Evicted, with_below, lookup, flush, load_entry, ready_entry, evict, evict_block, evict_at, evict_all, after_read, after_write, after_return, cache_rules}
 use Rattle.pile.specs.Table.{empties}
 use Rattle.cache.specs.declared.cache.Cache.{Cache}
-use Rattle.cache.specs.Transfer.{topped}
 
 module _ {L M P : Type 0} (level : Level L) (policy : Policy P M) where
   abbrev pub StateOf : Type 0

@@ -1,13 +1,9 @@
 -- Bytes to and from the level below.
-use Rattle.std.specs.Prelude.{◌≡◌, ℕ, ◌+◌, ◌*◌, min, List}
+use Rattle.std.specs.Prelude.{◌≡◌, ℕ, ◌+◌, ◌*◌, List}
 use Rattle.level.specs.declared.level.Level.{Ghosts}
-use Rattle.level.specs.Level.{clocks, value}
+use Rattle.level.specs.Level.{clocks, topped, value}
 use Rattle.level.specs.Level.Call.{read, write}
 use Rattle.pile.specs.Cache.{write_back, fetch_block}
-
--- clocks as the code tells them: they have 32 bits and stop at the top
-abbrev pub topped : ℕ → ℕ
-topped n = min n 4294967295
 
 module _ {L : Type 0} (level : Ghosts L) where
   -- Calls took the level below from b to d, whose state is s, and `told` is what the code tells of the clocks that they spent. The lent memory is the same.

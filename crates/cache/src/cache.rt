@@ -5,7 +5,7 @@ ghost use Rattle.cache.specs.Steps.{StateOf, held, rules_of, empty_over, LooksUp
 ghost use Rattle.pile.proofs.CacheMeaning.{cache_meaning};
 
 use crate::table::Table;
-use crate::transfer::{counted, fetch, send};
+use crate::transfer::{fetch, send};
 use level::{Access, Done, Level, deeper};
 use std::marker::PhantomData;
 use ways::{Block, Mapping, Policy, Slot};
@@ -20,18 +20,11 @@ pub struct Cache<L, M, P> {
     mapping: PhantomData<M>,
 }
 
-// The entry that holds a called byte, and the clocks that it cost to have it there.
-#[derive(Clone, Copy)]
-struct Ready {
-    slot: Slot,
-    clocks: u32,
-}
-
 // The set of an entry.
 fn set_of<M: Mapping>(slot: Slot) -> u8
     ensures { result ≡ set_of M.Mapping.shape slot.index }
 {
-    (slot.index() / M::way_count()) as u8
+    (slot.index() / M::WAYS) as u8
 }
 
 impl<L: Level, M: Mapping, P: Policy<M>> Cache<L, M, P> {
@@ -57,13 +50,7 @@ impl<L: Level, M: Mapping, P: Policy<M>> Cache<L, M, P> {
         ensures state { L.Level.state result ≡ (held L.Level P.Policy self).below }
         ensures lent { L.Level.lent result ≡ L.Level.lent self.below }
     {
-        let Cache {
-            below,
-            table: _,
-            policy: _,
-            mapping: _,
-        } = self;
-        below
+        self.below
     }
 
     // The entry that holds a block.
@@ -71,12 +58,9 @@ impl<L: Level, M: Mapping, P: Policy<M>> Cache<L, M, P> {
         ensures { LooksUp L.Level M.Mapping P.Policy self.now block.number result }
     {
         let (set, tag) = M::split(block);
-        let ways = M::way_count();
-        let base = set as usize * ways;
-        match self.table.find(base, ways, tag) {
-            Some(way) => Slot::new(base + way),
-            None => None,
-        }
+        let base = set as usize * M::WAYS;
+        let way = self.table.find(base, M::WAYS, tag)?;
+        Slot::new(base + way)
     }
 
     // A dirty entry is written below; a clean one is not.
@@ -91,33 +75,30 @@ impl<L: Level, M: Mapping, P: Policy<M>> Cache<L, M, P> {
         send(&mut self.below, block, entry.bytes)
     }
 
-    // The block of an address comes into the last way of its set's order.
-    fn load(&mut self, address: u16) -> Ready
-        ensures { Loads L.Level M.Mapping P.Policy self.old address result.slot.index result.clocks self.new }
+    // The block of an address comes into the last way of its set's order: the entry of that way, and the clocks.
+    fn load(&mut self, address: u16) -> (Slot, u32)
+        ensures { Loads L.Level M.Mapping P.Policy self.old address result.0.index result.1 self.new }
     {
         let block = Block::of(address);
         let slot = self.policy.victim(block);
         let flushed = self.flush(slot);
-        let fetched = fetch(&mut self.below, address);
+        let (bytes, fetched) = fetch(&mut self.below, address);
         let (_, tag) = M::split(block);
         let entry = &mut self.table.entries[slot.index()];
-        entry.fill(tag, fetched.bytes);
+        entry.fill(tag, bytes);
         self.policy.loaded(slot);
-        Ready {
-            slot,
-            // The last two are the looks before and after.
-            clocks: flushed.saturating_add(fetched.clocks).saturating_add(2),
-        }
+        // The last two clocks are the looks before and after.
+        (slot, flushed.saturating_add(fetched).saturating_add(2))
     }
 
-    // The block of an address has an entry after this, wherever it was before.
-    fn ready(&mut self, address: u16) -> Ready
-        ensures { Readies L.Level M.Mapping P.Policy self.old address result.slot.index result.clocks self.new }
+    // The block of an address has an entry after this, wherever it was before: that entry, and the clocks.
+    fn ready(&mut self, address: u16) -> (Slot, u32)
+        ensures { Readies L.Level M.Mapping P.Policy self.old address result.0.index result.1 self.new }
     {
         match self.lookup(Block::of(address)) {
             Some(slot) => {
                 self.policy.hit(slot);
-                Ready { slot, clocks: 1 }
+                (slot, 1)
             }
             None => self.load(address),
         }
@@ -127,11 +108,11 @@ impl<L: Level, M: Mapping, P: Policy<M>> Cache<L, M, P> {
     fn after_read(&mut self, address: u16) -> Done
         ensures { Reads L.Level M.Mapping P.Policy self.old address result self.new }
     {
-        let ready = self.ready(address);
-        let entry = &self.table.entries[ready.slot.index()];
+        let (slot, clocks) = self.ready(address);
+        let entry = &self.table.entries[slot.index()];
         Done {
             value: entry.byte(address),
-            clocks: ready.clocks,
+            clocks,
         }
     }
 
@@ -139,12 +120,12 @@ impl<L: Level, M: Mapping, P: Policy<M>> Cache<L, M, P> {
     fn after_write(&mut self, address: u16, byte: u8) -> Done
         ensures { Writes L.Level M.Mapping P.Policy self.old address byte result self.new }
     {
-        let ready = self.ready(address);
-        let entry = &mut self.table.entries[ready.slot.index()];
+        let (slot, clocks) = self.ready(address);
+        let entry = &mut self.table.entries[slot.index()];
         entry.put(address, byte);
         Done {
             value: byte,
-            clocks: ready.clocks,
+            clocks,
         }
     }
 
@@ -164,6 +145,7 @@ impl<L: Level, M: Mapping, P: Policy<M>> Cache<L, M, P> {
     fn evict_block(&mut self, address: u16) -> u32
         ensures { EvictsBlock L.Level M.Mapping P.Policy self.old address result self.new }
     {
+        // A match, since what a closure of `map_or` changes in the cache is not proved.
         match self.lookup(Block::of(address)) {
             Some(slot) => self.evict(slot),
             None => 0,
@@ -175,21 +157,24 @@ impl<L: Level, M: Mapping, P: Policy<M>> Cache<L, M, P> {
         ensures { Returns L.Level M.Mapping P.Policy self.old address result self.new }
     {
         let evicted = self.evict_block(address);
-        let below = counted(self.below.return_block(address));
+        let returned = self
+            .below
+            .return_block(address)
+            .map_or(0, |done| done.clocks);
         Done {
             value: 0,
-            clocks: evicted.saturating_add(below.clocks).saturating_add(1),
+            clocks: evicted.saturating_add(returned).saturating_add(1),
         }
     }
 
-    // The entry of a number, where it is valid.
-    fn evict_at(&mut self, index: usize) -> u32
-        requires { index < 8 }
-        ensures { EvictsAt L.Level M.Mapping P.Policy self.old index result self.new }
+    // An entry, where it is valid.
+    fn evict_at(&mut self, slot: Slot) -> u32
+        ensures { EvictsAt L.Level M.Mapping P.Policy self.old slot.index result self.new }
     {
-        match Slot::new(index) {
-            Some(slot) if self.table.entries[index].valid => self.evict(slot),
-            _ => 0,
+        if self.table.entries[slot.index()].valid {
+            self.evict(slot)
+        } else {
+            0
         }
     }
 
@@ -198,10 +183,8 @@ impl<L: Level, M: Mapping, P: Policy<M>> Cache<L, M, P> {
         ensures { EvictsAll L.Level M.Mapping P.Policy self.old result self.new }
     {
         let mut clocks: u32 = 0;
-        for index in 0..8 {
-            clocks = clocks
-                .saturating_add(self.evict_at(index))
-                .saturating_add(1);
+        for slot in Slot::all() {
+            clocks = clocks.saturating_add(self.evict_at(slot)).saturating_add(1);
         }
         clocks
     }
@@ -218,32 +201,23 @@ impl<L: Level, M: Mapping, P: Policy<M>> Level for Cache<L, M, P> {
 
     ghost meaning = { cache_meaning L.Level.rules M.Mapping.shape P.Policy.orders L.Level.meaning M.Mapping.mapped P.Policy.ordered };
 
-    fn query(&self, address: u16, access: Access) -> Option<CallRefusal> {
-        match self.below.query(address, access) {
-            Some(refusal) => Some(deeper(refusal)),
-            None => None,
-        }
+    fn query(&self, address: u16, access: Access) -> Result<(), CallRefusal> {
+        self.below.query(address, access).map_err(deeper)
     }
 
     fn read(&mut self, address: u16) -> Result<Done, CallRefusal> {
-        match self.below.query(address, Access::Read) {
-            Some(refusal) => Err(deeper(refusal)),
-            None => Ok(self.after_read(address)),
-        }
+        self.query(address, Access::Read)?;
+        Ok(self.after_read(address))
     }
 
     fn write(&mut self, address: u16, byte: u8) -> Result<Done, CallRefusal> {
-        match self.below.query(address, Access::Write) {
-            Some(refusal) => Err(deeper(refusal)),
-            None => Ok(self.after_write(address, byte)),
-        }
+        self.query(address, Access::Write)?;
+        Ok(self.after_write(address, byte))
     }
 
     fn return_block(&mut self, address: u16) -> Result<Done, CallRefusal> {
-        match self.below.query(address, Access::Read) {
-            Some(refusal) => Err(deeper(refusal)),
-            None => Ok(self.after_return(address)),
-        }
+        self.query(address, Access::Read)?;
+        Ok(self.after_return(address))
     }
 
     fn return_all(&mut self) -> u32 {

@@ -1,5 +1,5 @@
-ghost use Rattle.std.specs.Prelude.{◌≡◌, ◌+◌, ◌<◌, ◌≤◌, IfSome};
-ghost use Rattle.pile.specs.Table.{empties, find};
+ghost use Rattle.std.specs.Prelude.{◌≡◌, ◌+◌, ◌<◌, ◌≤◌, ◌&&◌, ◌==◌, IfSome, position, slice_range};
+ghost use Rattle.pile.specs.Table.{empties};
 
 use pile::Entry;
 
@@ -21,14 +21,11 @@ impl Table {
     // The lowest way whose entry holds the tag, in the set that begins at the entry `base`.
     pub(crate) fn find(&self, base: usize, ways: usize, tag: u16) -> Option<usize>
         requires { base + ways ≤ 8 }
-        ensures way { result ≡ find self.now.entries base tag 0 ways }
+        ensures way { result ≡ position (λ e. e.valid && e.tag == tag) (slice_range self.now.entries base (base + ways)) }
         ensures below { IfSome result (λ way. way < ways) }
     {
-        for way in 0..ways {
-            if self.entries[base + way].holds(tag) {
-                return Some(way);
-            }
-        }
-        None
+        self.entries[base..base + ways]
+            .iter()
+            .position(|entry| entry.holds(tag))
     }
 }

@@ -1,8 +1,8 @@
-ghost use Rattle.std.specs.Prelude.{◌≡◌, ◌+◌, ◌*◌};
-ghost use Rattle.indexjob.specs.Angles.{ShorterWay, angle_bytes};
+ghost use Rattle.std.specs.Prelude.{◌≡◌};
+ghost use Rattle.indexjob.specs.Angles.{ShorterWay, angle_at, angle_bytes};
 
 // An angle of the table in tenths of a degree.
-#[derive(Clone, Copy, PartialEq, Eq)]
+#[derive(Clone, Copy, PartialEq, Eq, Default)]
 pub struct Angle {
     pub tenths: u16,
 }
@@ -11,21 +11,6 @@ pub struct Angle {
 const ROUND: u16 = 3600;
 
 impl Angle {
-    // From the bytes of a station's record, the high one first.
-    pub fn from_bytes(high: u8, low: u8) -> Angle
-        ensures { result.tenths ≡ 256 * high + low }
-    {
-        Angle {
-            tenths: u16::from_be_bytes([high, low]),
-        }
-    }
-
-    pub fn to_bytes(self) -> [u8; 2]
-        ensures { result ≡ angle_bytes self.tenths }
-    {
-        self.tenths.to_be_bytes()
-    }
-
     // The shorter way round to another angle, in tenths of a degree; below 0 the table turns back.
     pub fn way_to(self, to: Angle) -> i16
         ensures { ShorterWay self.tenths to.tenths result }
@@ -36,5 +21,24 @@ impl Angle {
         } else {
             forward as i16 - ROUND as i16
         }
+    }
+}
+
+// From the bytes of a station's record, the high one first.
+impl From<[u8; 2]> for Angle {
+    ghost from_gives = { λ bytes angle. angle.tenths ≡ angle_at bytes 0 };
+
+    fn from(bytes: [u8; 2]) -> Angle {
+        Angle {
+            tenths: u16::from_be_bytes(bytes),
+        }
+    }
+}
+
+impl From<Angle> for [u8; 2] {
+    ghost from_gives = { λ angle bytes. bytes ≡ angle_bytes angle.tenths };
+
+    fn from(angle: Angle) -> [u8; 2] {
+        angle.tenths.to_be_bytes()
     }
 }

@@ -10,15 +10,13 @@ mod quote;
 mod stations;
 
 use angle::Angle;
-use anyhow::anyhow;
+use anyhow::{anyhow, bail, ensure};
 use cache::Cache;
 use level::{Done, Level};
 use memory::{Guard, Plain};
-use quote::quote;
 use settle::{Account, Running};
 use stations::{
-    Angles, MOVE_BLOCKS, MOVE_CALLS, Move, STATIONS, home_angles, index_round, read_all, teach,
-    teach_all, went_by,
+    Angles, MOVE, Move, STATIONS, home_angles, index_round, read_all, teach, teach_all, went_by,
 };
 use ways::{Fifo, SetAssociative};
 use words::CallRefusal;
@@ -49,11 +47,10 @@ const CORRECTED_ANGLE: Angle = Angle { tenths: 3200 };
 fn main(rt: HostRuntime) -> anyhow::Result<()> {
     println!(rt; "indexjob 1")?;
     let mut bytes = [0; 256];
-    let (memory, angles) = index_job(&rt, Plain::new(&mut bytes[0..256], FIGURE))?;
+    let (memory, angles) = index_job(&rt, Plain::new(&mut bytes[..], FIGURE))?;
     // What the pile was last seen to hold is what it left in the memory.
-    if home_angles(&memory.into_bytes()) != angles {
-        return Err(anyhow!("the memory is behind what was read"));
-    }
+    let home = home_angles(&memory.into_bytes());
+    ensure!(home == angles, "the memory is behind what was read");
     println!(rt; "memory: {STATIONS} angles as read back")?;
     Ok(())
 }
@@ -78,7 +75,7 @@ struct Report {
 fn index_job<L: Level + Drop>(rt: &HostRuntime, memory: L) -> anyhow::Result<(L, Angles)>
     ensures { IfOk result (λ back. L.Level.lent back.0 ≡ L.Level.lent memory) }
 {
-    let quoted = quote(MOVE_CALLS, MOVE_BLOCKS, FIGURE);
+    let quoted = MOVE.quote(FIGURE);
     let pile: Cache<Guard<L>, SetAssociative, Fifo> = Cache::over(Guard::new(
         memory,
         CALIBRATION,
@@ -122,10 +119,7 @@ fn print_report(rt: &HostRuntime, report: Report) -> anyhow::Result<Angles> {
 
 // A refusal as the error that it ends the job with.
 fn accepted<T>(answer: Result<T, CallRefusal>) -> anyhow::Result<T> {
-    match answer {
-        Ok(given) => Ok(given),
-        Err(_) => Err(anyhow!("a call was refused")),
-    }
+    answer.map_err(|_| anyhow!("a call was refused"))
 }
 
 // A line for each move: the angles, the turn, and the clocks quoted and spent.
@@ -139,25 +133,22 @@ fn print_moves(rt: &HostRuntime, quoted: u32, moves: [Move; STATIONS]) -> anyhow
         println!(rt;
             "move {station} to {next}: {from} to {to} by {turn:+}, quoted {quoted}, cost {clocks}"
         )?;
-        if clocks > quoted {
-            return Err(anyhow!("a move cost more than was quoted"));
-        }
+        ensure!(clocks <= quoted, "a move cost more than was quoted");
     }
-    if !went_by(&moves, &TAUGHT) {
-        return Err(anyhow!("a move went by another angle than was taught"));
-    }
+    ensure!(
+        went_by(&moves, &TAUGHT),
+        "a move went by another angle than was taught"
+    );
     Ok(())
 }
 
 // The write of a calibration byte, which must have been refused.
 fn print_refusal(rt: &HostRuntime, answer: Result<Done, CallRefusal>) -> anyhow::Result<()> {
-    match answer {
-        Err(CallRefusal::ReadOnly { address, depth }) => {
-            println!(rt; "calibration at {address}: refused at depth {depth}")?;
-            Ok(())
-        }
-        _ => Err(anyhow!("a calibration byte was open to a write")),
-    }
+    let Err(CallRefusal::ReadOnly { address, depth }) = answer else {
+        bail!("a calibration byte was open to a write");
+    };
+    println!(rt; "calibration at {address}: refused at depth {depth}")?;
+    Ok(())
 }
 
 fn print_account(rt: &HostRuntime, account: Account) -> anyhow::Result<()> {
@@ -170,9 +161,10 @@ fn print_account(rt: &HostRuntime, account: Account) -> anyhow::Result<()> {
 fn print_read_back(rt: &HostRuntime, angles: Angles) -> anyhow::Result<()> {
     let mut wanted = TAUGHT;
     wanted[CORRECTED as usize] = CORRECTED_ANGLE;
-    if angles != wanted {
-        return Err(anyhow!("a station came back with another angle than it was taught"));
-    }
+    ensure!(
+        angles == wanted,
+        "a station came back with another angle than it was taught"
+    );
     println!(rt; "read back: {STATIONS} angles as taught")?;
     Ok(())
 }

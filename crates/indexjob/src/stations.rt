@@ -1,25 +1,29 @@
-ghost use Rattle.std.specs.Prelude.{◌≡◌, ℕ, ◌+◌, ◌*◌, ◌<◌, true, IfOk, OnOk, slice_index_or};
+ghost use Rattle.std.specs.Prelude.{◌≡◌, ℕ, ◌+◌, ◌*◌, ◌%◌, ◌<◌, true, IfOk, slice_index_or, sum_by};
 ghost use Rattle.level.specs.Level.{topped};
-ghost use Rattle.indexjob.specs.Job.{WentBy, after_angle, after_move, after_teaching, angle_at, angle_read, origin};
+ghost use Rattle.indexjob.specs.Angles.{angle_at};
+ghost use Rattle.indexjob.specs.Job.{Does, Reads, WentBy, after_angle, after_angles, after_move, after_round, after_teaching, after_teachings, angle_read, nowhere, origin};
 
 use crate::angle::Angle;
+use crate::quote::Stretch;
 use level::Level;
 use memory::Bytes;
 use settle::Running;
+use std::array;
 use words::CallRefusal;
 
 pub const STATIONS: usize = 8;
 
 // What a move asks of the pile: four reads and a write, in the records of two stations.
-pub const MOVE_CALLS: u8 = 5;
-
-pub const MOVE_BLOCKS: u8 = 2;
+pub const MOVE: Stretch = Stretch {
+    calls: 5,
+    blocks: 2,
+};
 
 // The angles of the stations.
 pub type Angles = [Angle; STATIONS];
 
 // A move of the table from one station to another, and what its calls cost.
-#[derive(Clone, Copy)]
+#[derive(Clone, Copy, Default)]
 pub struct Move {
     pub from: Angle,
     pub to: Angle,
@@ -37,24 +41,24 @@ pub fn record_of(station: u8) -> u16
 // The angle of a station, and what the two reads cost.
 fn read_angle<L: Level>(running: &mut Running<L>, station: u8) -> Result<(Angle, u32), CallRefusal>
     ensures angle { IfOk result (λ told. told.0.tenths ≡ angle_read L.Level.rules (L.Level.state running.old.pile) (16 * station)) }
-    ensures clocks { IfOk result (λ told. running.new.clocks ≡ topped (running.old.clocks + told.1)) }
-    ensures next { OnOk result (L.Level.state running.new.pile ≡ after_angle L.Level.rules (L.Level.state running.old.pile) (16 * station)) }
-    ensures lent { L.Level.lent running.new.pile ≡ L.Level.lent running.old.pile }
+    ensures clocks { IfOk result (λ told. running.new.account.clocks ≡ topped (running.old.account.clocks + told.1)) }
+    ensures does { Does L.Level running.old (λ s. after_angle L.Level.rules s (16 * station)) running.new result }
 {
     let place = record_of(station);
     let high = running.read(place)?;
     let low = running.read(place + 1)?;
-    let angle = Angle::from_bytes(high.value, low.value);
+    let angle = Angle::from([high.value, low.value]);
     Ok((angle, high.clocks.saturating_add(low.clocks)))
 }
 
+// The angles of all stations, one after the other.
 pub fn read_all<L: Level>(running: &mut Running<L>) -> Result<Angles, CallRefusal>
-    ensures { L.Level.lent running.new.pile ≡ L.Level.lent running.old.pile }
+    ensures angles { IfOk result (λ angles. (k : ℕ) → k < 8 → (slice_index_or angles k origin).tenths ≡ angle_read L.Level.rules (after_angles L.Level.rules (L.Level.state running.old.pile) k) (16 * k)) }
+    ensures does { Does L.Level running.old (λ s. after_angles L.Level.rules s 8) running.new result }
 {
-    let mut angles = [Angle { tenths: 0 }; STATIONS];
-    for station in 0..STATIONS {
-        let (angle, _) = read_angle(running, station as u8)?;
-        angles[station] = angle;
+    let mut angles = [Angle::default(); STATIONS];
+    for (station, angle) in angles.iter_mut().enumerate() {
+        *angle = read_angle(running, station as u8)?.0;
     }
     Ok(angles)
 }
@@ -65,32 +69,31 @@ pub fn teach<L: Level>(
     station: u8,
     angle: Angle,
 ) -> Result<(), CallRefusal>
-    ensures next { OnOk result (L.Level.state running.new.pile ≡ after_teaching L.Level.rules (L.Level.state running.old.pile) (16 * station) angle.tenths) }
-    ensures lent { L.Level.lent running.new.pile ≡ L.Level.lent running.old.pile }
+    ensures { Does L.Level running.old (λ s. after_teaching L.Level.rules s (16 * station) angle.tenths) running.new result }
 {
     let place = record_of(station);
-    let [high, low] = angle.to_bytes();
+    let [high, low]: [u8; 2] = angle.into();
     running.write(place, high)?;
     running.write(place + 1, low)?;
     Ok(())
 }
 
+// All stations are taught their angles, one after the other.
 pub fn teach_all<L: Level>(running: &mut Running<L>, angles: Angles) -> Result<(), CallRefusal>
-    ensures { L.Level.lent running.new.pile ≡ L.Level.lent running.old.pile }
+    ensures { Does L.Level running.old (λ s. after_teachings L.Level.rules s angles 8) running.new result }
 {
-    for station in 0..STATIONS {
-        teach(running, station as u8, angles[station])?;
+    for (station, angle) in angles.iter().enumerate() {
+        teach(running, station as u8, *angle)?;
     }
     Ok(())
 }
 
-// Both angles are read, and the station that the table leaves is noted in the record of the one that it comes to.
+// Both angles are read, and the station that the table leaves is noted in the record of the one that it comes to. The two
+// stations stay two numbers: nothing but a move takes both, and it uses them apart.
 fn index<L: Level>(running: &mut Running<L>, from: u8, to: u8) -> Result<Move, CallRefusal>
-    ensures from { IfOk result (λ step. step.from.tenths ≡ angle_read L.Level.rules (L.Level.state running.old.pile) (16 * from)) }
-    ensures to { IfOk result (λ step. step.to.tenths ≡ angle_read L.Level.rules (after_angle L.Level.rules (L.Level.state running.old.pile) (16 * from)) (16 * to)) }
-    ensures clocks { IfOk result (λ step. running.new.clocks ≡ topped (running.old.clocks + step.clocks)) }
-    ensures next { OnOk result (L.Level.state running.new.pile ≡ after_move L.Level.rules (L.Level.state running.old.pile) from to) }
-    ensures lent { L.Level.lent running.new.pile ≡ L.Level.lent running.old.pile }
+    ensures reads { IfOk result (λ step. Reads L.Level.rules (L.Level.state running.old.pile) from to step) }
+    ensures clocks { IfOk result (λ step. running.new.account.clocks ≡ topped (running.old.account.clocks + step.clocks)) }
+    ensures does { Does L.Level running.old (λ s. after_move L.Level.rules s from to) running.new result }
 {
     let (from_angle, first) = read_angle(running, from)?;
     let (to_angle, second) = read_angle(running, to)?;
@@ -104,17 +107,14 @@ fn index<L: Level>(running: &mut Running<L>, from: u8, to: u8) -> Result<Move, C
 
 // Once through all stations and back to the first.
 pub fn index_round<L: Level>(running: &mut Running<L>) -> Result<[Move; STATIONS], CallRefusal>
-    ensures { L.Level.lent running.new.pile ≡ L.Level.lent running.old.pile }
+    ensures reads { IfOk result (λ moves. (k : ℕ) → k < 8 → Reads L.Level.rules (after_round L.Level.rules (L.Level.state running.old.pile) k) k ((k + 1) % 8) (slice_index_or moves k nowhere)) }
+    ensures clocks { IfOk result (λ moves. running.new.account.clocks ≡ topped (running.old.account.clocks + sum_by (λ step. step.clocks) moves)) }
+    ensures does { Does L.Level running.old (λ s. after_round L.Level.rules s 8) running.new result }
 {
-    let nowhere = Angle { tenths: 0 };
-    let mut moves = [Move {
-        from: nowhere,
-        to: nowhere,
-        clocks: 0,
-    }; STATIONS];
-    for station in 0..STATIONS {
+    let mut moves = [Move::default(); STATIONS];
+    for (station, step) in moves.iter_mut().enumerate() {
         let next = (station + 1) % STATIONS;
-        moves[station] = index(running, station as u8, next as u8)?;
+        *step = index(running, station as u8, next as u8)?;
     }
     Ok(moves)
 }
@@ -123,23 +123,17 @@ pub fn index_round<L: Level>(running: &mut Running<L>) -> Result<[Move; STATIONS
 pub fn home_angles<B: Bytes>(bytes: &B) -> Angles
     ensures { (k : ℕ) → k < 8 → (slice_index_or result k origin).tenths ≡ angle_at (B.Bytes.content bytes.now) (16 * k) }
 {
-    let mut angles = [Angle { tenths: 0 }; STATIONS];
-    for station in 0..STATIONS {
+    array::from_fn(|station| {
         let place = record_of(station as u8) as usize;
-        angles[station] = Angle::from_bytes(bytes.get(place), bytes.get(place + 1));
-    }
-    angles
+        Angle::from([bytes.get(place), bytes.get(place + 1)])
+    })
 }
 
 // Whether every move went from the angle of one station to that of the next.
 pub fn went_by(moves: &[Move; STATIONS], angles: &Angles) -> bool
     ensures { result ≡ true → (k : ℕ) → k < 8 → WentBy moves.now angles.now k }
 {
-    for station in 0..STATIONS {
-        let step = moves[station];
-        if step.from != angles[station] || step.to != angles[(station + 1) % STATIONS] {
-            return false;
-        }
-    }
-    true
+    moves.iter().enumerate().all(|(station, step)| {
+        step.from == angles[station] && step.to == angles[(station + 1) % STATIONS]
+    })
 }

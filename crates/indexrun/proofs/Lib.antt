@@ -1,3 +1,1 @@
 mod Printed
-mod Texts
-mod Fresh

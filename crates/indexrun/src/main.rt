@@ -12,7 +12,8 @@ use words::LONGEST_LIST;
 
 fn main(rt: HostRuntime) -> anyhow::Result<()> {
     let mut list = Vec::new(rt.alloc());
-    // One byte past the longest list is enough to know that a list is too long.
+    // One byte past the longest list is enough to know that a list is too long. The crate of the words allocates nothing,
+    // so each program that takes a list from its input reads it itself.
     rt.stdin()
         .take(LONGEST_LIST as u64 + 1)
         .read_to_end(&mut list)?;

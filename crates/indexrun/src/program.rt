@@ -14,7 +14,7 @@ pub fn indexrun_text(heap: Global, list: &[u8]) -> Result<String, AllocError>
 {
     let mut bytes = [0; 256];
     let mut pile: Cache<Plain<&mut [u8]>, SetAssociative, Fifo> = Cache::over(Plain::new(
-        &mut bytes[0..256],
+        &mut bytes[..],
         3,
     ));
     listing(heap, &mut pile, list)

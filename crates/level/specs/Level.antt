@@ -53,7 +53,7 @@ topped n = min n 4294967295
 
 -- what the code reports of an answer: clocks have 32 bits and stop at the top
 abbrev pub capped : Answer → Answer
-capped (accepted v k) = accepted v (min k 4294967295)
+capped (accepted v k) = accepted v (topped k)
 capped (refused n a d) = refused n a d
 
 -- an answer as the level above passes it up: the depth of a refusal grows by 1 and stops at 255

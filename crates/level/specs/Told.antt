@@ -1,5 +1,5 @@
 -- What the code's answers mean. Refusals go through the one table that numbers them.
-use Rattle.std.specs.Prelude.{Some, None, Ok, Err, Option, Result, slice_index}
+use Rattle.std.specs.Prelude.{Ok, Err, Result, slice_index}
 use Rattle.words.specs.declared.refusal.CallRefusal.{CallRefusal}
 use Rattle.words.specs.declared.refusal.Refusal.TheVariants.{Call}
 use Rattle.words.specs.Refusals.{told}
@@ -17,6 +17,6 @@ reported (Ok d) = accepted d.value d.clocks
 reported (Err r) = refusal r
 
 -- what a query reports
-abbrev pub reported_query : Option CallRefusal → Answer
-reported_query None = accepted 0 0
-reported_query (Some r) = refusal r
+abbrev pub reported_query : Result (Unit {0}) CallRefusal → Answer
+reported_query (Ok x) = accepted 0 0
+reported_query (Err r) = refusal r

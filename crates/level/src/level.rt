@@ -1,6 +1,6 @@
 ghost use Rattle.std.specs.Borrow.{GName};
-ghost use Rattle.std.specs.Prelude.{◌≡◌, min, List};
-ghost use Rattle.level.specs.Level.{Rules, capped, clocks};
+ghost use Rattle.std.specs.Prelude.{◌≡◌, List};
+ghost use Rattle.level.specs.Level.{Rules, capped, clocks, topped};
 ghost use Rattle.level.specs.Level.Answer.{accepted};
 ghost use Rattle.level.specs.Level.Call.{read as read_call, write as write_call, return_block as return_block_call, return_all as return_all_call};
 ghost use Rattle.level.specs.Meaning.{Meaning};
@@ -9,7 +9,7 @@ ghost use Rattle.level.specs.Told.{reported, reported_query};
 use words::CallRefusal;
 
 // What a query asks about: a block return is asked about as a read.
-#[derive(Clone, Copy)]
+#[derive(Clone, Copy, PartialEq, Eq, Debug)]
 pub enum Access {
     Read,
     Write,
@@ -17,7 +17,7 @@ pub enum Access {
 
 // What an accepted call gives: the byte read or written, or 0 for a return, and its clocks, which stop
 // at the top of their 32 bits.
-#[derive(Clone, Copy)]
+#[derive(Clone, Copy, PartialEq, Eq, Debug)]
 pub struct Done {
     pub value: u8,
     pub clocks: u32,
@@ -35,8 +35,8 @@ pub trait Level {
     // The memories at the bottom, which the caller lends: one, two for two modules, and none for an image.
     ghost lent: { Self → List GName };
 
-    // The refusal that a call would get, or none.
-    fn query(&self, address: u16, access: Access) -> Option<CallRefusal>
+    // Whether a call would be taken, or the refusal that it would get.
+    fn query(&self, address: u16, access: Access) -> Result<(), CallRefusal>
         ensures { reported_query result ≡ rules.ask (state self.now) access address };
 
     fn read(&mut self, address: u16) -> Result<Done, CallRefusal>
@@ -57,7 +57,7 @@ pub trait Level {
 
     // Everything goes down to the lowest memory. It is never refused, and gives its clocks.
     fn return_all(&mut self) -> u32
-        ensures answer { result ≡ min (clocks (rules.step (state self.old) return_all_call).answer) 4294967295 }
+        ensures answer { result ≡ topped (clocks (rules.step (state self.old) return_all_call).answer) }
         ensures taken { accepted 0 result ≡ capped (rules.step (state self.old) return_all_call).answer }
         ensures next { state self.new ≡ (rules.step (state self.old) return_all_call).next }
         ensures lent { lent self.new ≡ lent self.old };

@@ -4,7 +4,7 @@
 
 mod laws;
 mod level;
-mod refusal;
+pub mod refusal;
 
 pub use laws::{
     guard_check_tells, guard_keeps_meaning, guard_runs_below, image_keeps_meaning,

@@ -2,12 +2,6 @@
 use Rattle.std.specs.Prelude.{ℕ, ◌+◌, ◌/◌, Bool, false, cond, ◌||◌, List, [], ◌∷◌, Some, None, Option, ◌==◌}
 use Rattle.words.specs.declared.request.Operation.{Operation}
 use Rattle.words.specs.declared.request.Operation.TheVariants.{Read, Write, ReturnBlock, ReturnAll}
-use Rattle.words.specs.Requests.{decoded}
-
--- what the words of a list ask, one after the other; a word outside the layout asks nothing
-abbrev pub operations : List (List ℕ) → List Operation
-operations [] = []
-operations (w ∷ ws) = elim (decoded w) [ Some q ↦ q.operation ∷ operations ws | None ↦ operations ws ]
 
 -- 1 for an operation of its kind, else 0
 abbrev pub reading : Operation → ℕ

@@ -1,7 +1,8 @@
 ghost use Rattle.std.specs.Prelude.{◌≡◌, ◌+◌, ◌^◌, ◌<◌, List, ◌∷◌, IfOk, OnOk};
 ghost use Rattle.std.specs.BTreeSet.{contains, btree_set_len, IsOrdered};
 ghost use Rattle.words.specs.Lists.{words};
-ghost use Rattle.listcheck.specs.Account.{block as block_of, count, distinct_blocks, new_blocks, operations, reading, returning, writing};
+ghost use Rattle.words.specs.Requests.{operations};
+ghost use Rattle.listcheck.specs.Account.{block as block_of, count, distinct_blocks, new_blocks, reading, returning, writing};
 ghost use Rattle.std.specs.Ordering.{nat_cmp};
 
 use std::alloc::{AllocError, Global};
@@ -9,7 +10,7 @@ use std::collections::BTreeSet;
 use words::{Operation, Reader};
 
 // How often a list asks for what, and how many different blocks it names.
-#[derive(Clone, Copy)]
+#[derive(Clone, Copy, Default)]
 pub struct Account {
     pub reads: usize,
     pub writes: usize,
@@ -18,19 +19,15 @@ pub struct Account {
 }
 
 impl Account {
-    // Goes through a list and counts.
+    // Goes through a list and counts. A `filter_map` in front of the loop was tried: the loop's step does not prove then,
+    // since what the chain has skipped is only told as a run of the reader.
     pub fn of(heap: Global, list: &[u8]) -> Result<Self, AllocError>
         ensures reads { IfOk result (λ a. a.reads ≡ count reading (operations (words list.now))) }
         ensures writes { IfOk result (λ a. a.writes ≡ count writing (operations (words list.now))) }
         ensures returns { IfOk result (λ a. a.returns ≡ count returning (operations (words list.now))) }
         ensures blocks { IfOk result (λ a. a.blocks ≡ distinct_blocks (operations (words list.now))) }
     {
-        let mut account = Account {
-            reads: 0,
-            writes: 0,
-            returns: 0,
-            blocks: 0,
-        };
+        let mut account = Account::default();
         let mut named = BTreeSet::new(heap);
         for word in Reader::new(list) {
             let Ok(request) = word.decode() else {

@@ -1,23 +1,21 @@
 ghost use Rattle.std.specs.Prelude.{◌≡◌, IfOk, string_bytes};
 ghost use Rattle.words.specs.Refusals.{told};
+ghost use Rattle.words.specs.declared.refusal.Refusal.TheVariants.{List as OfList};
 ghost use Rattle.listcheck.specs.Lines.{end_line, refusal_line, request_line};
 
 use crate::account::Account;
 use std::alloc::{AllocError, Global};
-use words::{ListRefusal, ListSummary, Operation, Refusal, Request};
+use words::{ListRefusal, ListSummary, Operation, Request};
 
 // One request: its number, letter, address, the byte of a write, and its wait.
 pub fn request_line(heap: Global, place: usize, request: Request) -> Result<String, AllocError>
     ensures { IfOk result (λ s. string_bytes s ≡ request_line place request) }
 {
-    let letter = request.operation.letter();
-    let address = request.operation.address();
+    let operation = request.operation;
     let wait = request.wait.clocks();
-    match request.operation {
-        Operation::Write { byte, .. } => format!(in heap;
-            "{place} {letter} {address} {byte} {wait}"
-        ),
-        _ => format!(in heap; "{place} {letter} {address} - {wait}"),
+    match operation {
+        Operation::Write { byte, .. } => format!(in heap; "{place} {operation} {byte} {wait}"),
+        _ => format!(in heap; "{place} {operation} - {wait}"),
     }
 }
 
@@ -37,9 +35,7 @@ pub fn end_line(heap: Global, summary: ListSummary, account: Account) -> Result<
 
 // Why a list is not taken: the cause, and the number of the word to blame or 0.
 pub fn refusal_line(heap: Global, refusal: ListRefusal) -> Result<String, AllocError>
-    ensures { IfOk result (λ s. string_bytes s ≡ refusal_line (told (Refusal.List refusal))) }
+    ensures { IfOk result (λ s. string_bytes s ≡ refusal_line (told (OfList refusal))) }
 {
-    let cause = Refusal::List(refusal).number();
-    let word = refusal.word();
-    format!(in heap; "list no {cause} {word}")
+    format!(in heap; "list {refusal}")
 }

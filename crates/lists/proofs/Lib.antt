@@ -1,1 +1,1 @@
-mod Filled
+pub mod Filled

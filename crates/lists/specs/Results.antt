@@ -1,9 +1,9 @@
 -- The result of a request, by the answer of the rule.
-use Rattle.std.specs.Prelude.{ℕ, List, [], ◌∷◌}
+use Rattle.std.specs.Prelude.{ℕ, List, [], ◌∷◌, Ok, Err, Result}
 use Rattle.words.specs.declared.request.Operation.{Operation}
 use Rattle.words.specs.declared.request.Operation.TheVariants.{Read, Write, ReturnBlock, ReturnAll}
-use Rattle.words.specs.declared.result.CallResult.{CallResult}
-use Rattle.words.specs.declared.result.CallResult.TheVariants.{Accepted, Refused}
+use Rattle.words.specs.declared.refusal.CallRefusal.{CallRefusal}
+use Rattle.words.specs.declared.result.Accepted.{Accepted}
 use Rattle.words.specs.Requests.{address}
 use Rattle.words.specs.Results.{packed}
 use Rattle.level.specs.Level.{Call, Answer}
@@ -23,9 +23,9 @@ calls [] = []
 calls (o ∷ os) = call o ∷ calls os
 
 -- the answer that a result tells
-abbrev pub answer_told : CallResult → Answer
-answer_told (Accepted value address clocks) = accepted value clocks
-answer_told (Refused e) = refusal e
+abbrev pub answer_told : Result Accepted CallRefusal → Answer
+answer_told (Ok a) = accepted a.value a.clocks
+answer_told (Err e) = refusal e
 
 -- the result word of an operation that got an answer: a refusal has its own address, and costs no clocks
 abbrev pub word_of : Operation → Answer → List ℕ

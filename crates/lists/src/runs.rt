@@ -1,4 +1,6 @@
 ghost use Rattle.std.specs.Prelude.{◌≡◌, ◌*◌, ◌≤◌, ◌++◌, length, drop};
+ghost use Rattle.words.specs.Lists.{words};
+ghost use Rattle.words.specs.Summaries.{AllLegal};
 ghost use Rattle.level.specs.Arrays.{LikeArray};
 ghost use Rattle.level.specs.Listed.{after};
 ghost use Rattle.lists.specs.ListRuns.{asks, ran, result_words, told_run};
@@ -6,7 +8,7 @@ ghost use Rattle.lists.specs.Results.{calls};
 
 use crate::requests::serve;
 use level::Level;
-use words::{ListSummary, Reader, Refusal, check_list};
+use words::{ListSummary, Reader, Refusal, ResultWord, check_list};
 
 // The bytes of a result word.
 const RESULT: usize = 8;
@@ -24,31 +26,27 @@ pub fn run_list<L: Level>(
     ensures lent { L.Level.lent pile.new ≡ L.Level.lent pile.old }
     ensures array { LikeArray L.Level.rules }
 {
-    let summary = match check_list(list) {
-        Ok(summary) => summary,
-        Err(refusal) => return Err(Refusal::List(refusal)),
-    };
-    if results.len() < RESULT * summary.requests as usize {
+    let summary = check_list(list)?;
+    if results.len() < RESULT * usize::from(summary.requests) {
         return Err(Refusal::ResultsTooShort);
     }
     serve_all(pile, list, results);
     Ok(summary)
 }
 
-// Serves the requests of a list in turn. Each result goes behind the one before.
+// Serves the requests of a list that was taken, in turn. The results stand in the order of the words, and each is written
+// by its place: what a loop leaves in chunks of the results that are lent would not be known.
 fn serve_all<L: Level>(pile: &mut L, list: &[u8], results: &mut [u8])
-    requires { 8 * length (asks list.now) ≤ length results.old }
+    requires legal { AllLegal (words list.now) (length (words list.now)) }
+    requires room { 8 * length (words list.now) ≤ length results.old }
     ensures next { L.Level.state pile.new ≡ after L.Level.rules (L.Level.state pile.old) (calls (asks list.now)) }
     ensures results { results.new ≡ result_words L.Level.rules (L.Level.state pile.old) (asks list.now) ++ drop (8 * length (asks list.now)) results.old }
     ensures lent { L.Level.lent pile.new ≡ L.Level.lent pile.old }
 {
-    let mut end = 0;
     for word in Reader::new(list) {
-        let Ok(request) = word.decode() else {
-            continue;
-        };
-        let result = serve(pile, request.operation).encode();
-        results[end..end + RESULT].copy_from_slice(&result);
-        end += RESULT;
+        let request = word.decode().unwrap();
+        let result = ResultWord::from(serve(pile, request.operation));
+        let end = RESULT * word.place;
+        results[end - RESULT..end].copy_from_slice(&result.bytes);
     }
 }

@@ -15,6 +15,6 @@ asked_read {R = R} m s fresh a =
   where
     go : (x : Answer) (b : Bool) → Judged (cond b 0 1) a x → taken (verdict x) ≡ b
     go (accepted v k) true h = refl
-    go (accepted v k) false h = let z : ◌≡◌ {A = ℕ} 1 0 = h in absurd (omega arith)
-    go (refused n b d) true h = absurd (omega (arith, h.0, h.1))
+    go (accepted v k) false h = cc
+    go (refused n b d) true h = absurd (omega arith)
     go (refused n b d) false h = refl

@@ -26,3 +26,11 @@ pub trait BytesMut: Bytes {
         ensures content { Self.Bytes.content self.new ≡ slice_set (Self.Bytes.content self.old) place byte }
         ensures lent { lent self.new ≡ lent self.old };
 }
+
+// The byte of a slice at a place, and 0 past the end.
+// Slices held and slices lent have an impl each: one impl over `Deref` would have no content to name.
+fn byte_at(bytes: &[u8], place: usize) -> u8
+    ensures { result ≡ slice_index bytes.now place }
+{
+    bytes.get(place).copied().unwrap_or(0)
+}

@@ -1,7 +1,6 @@
-ghost use Rattle.std.specs.Prelude.{◌≡◌, ℕ, List, length};
-ghost use Rattle.level.specs.Memory.{length_ok, figure_ok, plain_check};
+ghost use Rattle.std.specs.Prelude.{◌≡◌, ◌==◌, if◌then◌else◌};
+ghost use Rattle.level.specs.Memory.{first_cause, length_ok, figure_ok};
 ghost use Rattle.memory.specs.Answers.{memory_number};
-ghost use Rattle.memory.specs.Plains.{plain_made};
 ghost use Rattle.memory.specs.Reach.{reached};
 
 use level::Done;
@@ -20,34 +19,38 @@ pub const RETURNED: Done = Done {
 pub fn length_fits(length: usize) -> bool
     ensures { result ≡ length_ok length }
 {
-    0 < length && length <= LONGEST && length % 4 == 0
+    (1..=LONGEST).contains(&length) && length % 4 == 0
 }
 
 // Whether an access may cost this many clocks.
 pub fn figure_fits(figure: u8) -> bool
     ensures { result ≡ figure_ok figure }
 {
-    1 <= figure && figure <= 15
+    (1..=15).contains(&figure)
 }
 
-// Whether one memory can be made of so many bytes and this clock figure.
-pub fn check_bytes(count: usize, figure: u8) -> Result<(), MemoryRefusal>
-    ensures { (bytes : List ℕ) → length bytes ≡ count → memory_number result ≡ plain_check (plain_made bytes figure) }
+// What the check of a making tells. The length is looked at first.
+pub fn judge(length_fits: bool, figure_fits: bool) -> Result<(), MemoryRefusal>
+    ensures { memory_number result ≡ first_cause length_fits 3 figure_fits 4 }
 {
-    if !length_fits(count) {
-        return Err(MemoryRefusal::Length);
+    if !length_fits {
+        Err(MemoryRefusal::Length)
+    } else if !figure_fits {
+        Err(MemoryRefusal::Figure)
+    } else {
+        Ok(())
     }
-    if !figure_fits(figure) {
-        return Err(MemoryRefusal::Figure);
-    }
-    Ok(())
 }
 
-// The refusal of an address that is not below the size.
-pub fn reach(size: usize, address: u16) -> Result<(), CallRefusal>
-    ensures { result ≡ reached size address }
+// The refusal of an address that is not below the size: the length, or 0 where the check of the making told a refusal.
+pub fn reach(
+    check: Result<(), MemoryRefusal>,
+    length: usize,
+    address: u16,
+) -> Result<(), CallRefusal>
+    ensures { result ≡ reached (if memory_number check == 0 then length else 0) address }
 {
-    if (address as usize) < size {
+    if check.is_ok() && usize::from(address) < length {
         Ok(())
     } else {
         Err(CallRefusal::OutOfRange { address, depth: 0 })

@@ -1,9 +1,8 @@
 ghost use Rattle.std.specs.Prelude.{◌≡◌, nat_lt};
 ghost use Rattle.level.specs.Guard.{Guarded, guard_check, guard_rules, in_range};
-ghost use Rattle.level.specs.Level.{block, deeper as passed};
-ghost use Rattle.level.specs.Told.{reported};
+ghost use Rattle.level.specs.Level.{block};
 ghost use Rattle.memory.specs.Answers.{guard_number};
-ghost use Rattle.memory.specs.Guards.{guard_state};
+ghost use Rattle.memory.specs.Guards.{allowed, guard_state};
 ghost use Rattle.level.proofs.GuardMeaning.{guard_meaning};
 
 use level::{Access, Done, Level, deeper};
@@ -16,7 +15,7 @@ pub struct Guard<L> {
     below: L,
     first: u16,
     count: u16,
-    // the check of the making found nothing
+    // The check of the making found nothing. It is no option of the range, which the rule has in either case.
     sound: bool,
 }
 
@@ -27,7 +26,7 @@ const BLOCKS: u32 = 16384;
 fn reaches<L: Level>(below: &L, address: u16) -> bool
     ensures { L.Level.rules.fresh (L.Level.state below.now) → result ≡ nat_lt address (L.Level.rules.size (L.Level.state below.now)) }
 {
-    below.query(address, Access::Read).is_none()
+    below.query(address, Access::Read).is_ok()
 }
 
 impl<L: Level> Guard<L> {
@@ -35,7 +34,7 @@ impl<L: Level> Guard<L> {
     pub fn check(below: &L, first: u16, count: u16) -> Result<(), GuardRefusal>
         ensures { L.Level.rules.fresh (L.Level.state below.now) → guard_number result ≡ guard_check first count (L.Level.rules.size (L.Level.state below.now)) }
     {
-        let end = first as u32 + count as u32;
+        let end = u32::from(first) + u32::from(count);
         if count == 0 {
             Err(GuardRefusal::NoBlocks)
         } else if end <= BLOCKS && reaches(below, (end * 4 - 1) as u16) {
@@ -64,31 +63,29 @@ impl<L: Level> Guard<L> {
     pub fn into_below(self) -> L
         ensures { result ≡ self.below }
     {
-        let Guard {
-            below,
-            first: _,
-            count: _,
-            sound: _,
-        } = self;
-        below
+        self.below
     }
 
     // Whether the address is in the range.
     fn covers(&self, address: u16) -> bool
         ensures { result ≡ in_range L.Level.rules (guard_state L.Level.state self.now) (block address) }
     {
-        let block = address as u32 / 4;
-        self.first as u32 <= block && block < self.first as u32 + self.count as u32
+        let first = u32::from(self.first);
+        (first..first + u32::from(self.count)).contains(&u32::from(address / 4))
     }
-}
 
-// What the level below answered, as it is passed up.
-fn passed_up(answer: Result<Done, CallRefusal>) -> Result<Done, CallRefusal>
-    ensures { reported result ≡ passed (reported answer) }
-{
-    match answer {
-        Ok(done) => Ok(done),
-        Err(refusal) => Err(deeper(refusal)),
+    // What the guard itself says to an access: a refusal of each where its check refused the making, and else of a write
+    // in its range.
+    fn allow(&self, address: u16, access: Access) -> Result<(), CallRefusal>
+        ensures { result ≡ allowed L.Level.rules (guard_state L.Level.state self.now) access address }
+    {
+        if !self.sound {
+            Err(CallRefusal::OutOfRange { address, depth: 0 })
+        } else if access == Access::Write && self.covers(address) {
+            Err(CallRefusal::ReadOnly { address, depth: 0 })
+        } else {
+            Ok(())
+        }
     }
 }
 
@@ -103,45 +100,25 @@ impl<L: Level> Level for Guard<L> {
 
     ghost meaning = { guard_meaning L.Level.rules L.Level.meaning };
 
-    fn query(&self, address: u16, access: Access) -> Option<CallRefusal> {
-        if !self.sound {
-            return Some(CallRefusal::OutOfRange { address, depth: 0 });
-        }
-        if let Access::Write = access
-            && self.covers(address)
-        {
-            return Some(CallRefusal::ReadOnly { address, depth: 0 });
-        }
-        match self.below.query(address, access) {
-            Some(refusal) => Some(deeper(refusal)),
-            None => None,
-        }
+    fn query(&self, address: u16, access: Access) -> Result<(), CallRefusal> {
+        self.allow(address, access)?;
+        self.below.query(address, access).map_err(deeper)
     }
 
     fn read(&mut self, address: u16) -> Result<Done, CallRefusal> {
-        if self.sound {
-            passed_up(self.below.read(address))
-        } else {
-            Err(CallRefusal::OutOfRange { address, depth: 0 })
-        }
+        self.allow(address, Access::Read)?;
+        self.below.read(address).map_err(deeper)
     }
 
     fn write(&mut self, address: u16, byte: u8) -> Result<Done, CallRefusal> {
-        if !self.sound {
-            Err(CallRefusal::OutOfRange { address, depth: 0 })
-        } else if self.covers(address) {
-            Err(CallRefusal::ReadOnly { address, depth: 0 })
-        } else {
-            passed_up(self.below.write(address, byte))
-        }
+        self.allow(address, Access::Write)?;
+        self.below.write(address, byte).map_err(deeper)
     }
 
+    // It is allowed wherever a read is.
     fn return_block(&mut self, address: u16) -> Result<Done, CallRefusal> {
-        if self.sound {
-            passed_up(self.below.return_block(address))
-        } else {
-            Err(CallRefusal::OutOfRange { address, depth: 0 })
-        }
+        self.allow(address, Access::Read)?;
+        self.below.return_block(address).map_err(deeper)
     }
 
     // It goes down even where the guard has no addresses.

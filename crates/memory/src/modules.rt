@@ -7,12 +7,12 @@ ghost use Rattle.memory.specs.TwoModules.{module_number, last_of, modules_made, 
 ghost use Rattle.level.proofs.ModulesMeaning.{modules_meaning};
 
 use crate::bytes::BytesMut;
-use crate::check::{RETURNED, figure_fits, length_fits, reach};
+use crate::check::{RETURNED, figure_fits, judge, length_fits, reach};
 use level::{Access, Done, Level};
 use words::{CallRefusal, MemoryRefusal};
 
 // Where an address lies: in the even or in the odd module.
-#[derive(Clone, Copy)]
+#[derive(Clone, Copy, PartialEq, Eq)]
 enum Module {
     Even,
     Odd,
@@ -26,10 +26,12 @@ pub struct Modules<B> {
     odd: B,
     short: u8,
     long: u8,
+    // none before the first access
     last: Option<Module>,
 }
 
 impl Module {
+    // It is no `From`: an address lies in a module, and is none.
     fn of(address: u16) -> Module
         ensures { module_number result ≡ address % 2 }
     {
@@ -55,13 +57,8 @@ impl<B: BytesMut> Modules<B> {
     pub fn check(even: usize, odd: usize, short: u8, long: u8) -> Result<(), MemoryRefusal>
         ensures { (e o : List ℕ) → length e ≡ even → length o ≡ odd → memory_number result ≡ modules_check (modules_made e o short long) }
     {
-        if !lengths_fit(even, odd) {
-            return Err(MemoryRefusal::Length);
-        }
-        if !figure_fits(short) || !figure_fits(long) || short > long {
-            return Err(MemoryRefusal::Figure);
-        }
-        Ok(())
+        let figures_fit = figure_fits(short) && figure_fits(long) && short <= long;
+        judge(lengths_fit(even, odd), figures_fit)
     }
 
     pub fn new(even: B, odd: B, short: u8, long: u8) -> Modules<B>
@@ -82,14 +79,7 @@ impl<B: BytesMut> Modules<B> {
     pub fn into_modules(self) -> (B, B)
         ensures { result ≡ (self.even, self.odd) }
     {
-        let Modules {
-            even,
-            odd,
-            short: _,
-            long: _,
-            last: _,
-        } = self;
-        (even, odd)
+        (self.even, self.odd)
     }
 
     // The refusal of an address that there is not.
@@ -98,21 +88,17 @@ impl<B: BytesMut> Modules<B> {
     {
         let even = self.even.count();
         let odd = self.odd.count();
-        match Modules::<B>::check(even, odd, self.short, self.long) {
-            Ok(()) => reach(even.saturating_add(odd), address),
-            Err(_) => reach(0, address),
-        }
+        let check = Self::check(even, odd, self.short, self.long);
+        reach(check, even.saturating_add(odd), address)
     }
 
-    // The clocks of an access of a module.
-    fn clocks(&self, called: Module) -> u32
-        ensures { result ≡ (if switched (last_of self.now.last) (module_number called) then self.now.short else self.now.long) }
+    // The clocks of an access of a module, which is the last one from then on.
+    fn turn_to(&mut self, called: Module) -> u32
+        ensures clocks { result ≡ (if switched (last_of self.old.last) (module_number called) then self.old.short else self.old.long) }
+        ensures next { self.new ≡ record self.old { last = Some called } }
     {
-        match (self.last, called) {
-            (Some(Module::Even), Module::Odd) => self.short as u32,
-            (Some(Module::Odd), Module::Even) => self.short as u32,
-            _ => self.long as u32,
-        }
+        let switched = self.last.replace(called).is_some_and(|last| last != called);
+        u32::from(if switched { self.short } else { self.long })
     }
 }
 
@@ -127,33 +113,32 @@ impl<B: BytesMut> Level for Modules<B> {
 
     ghost meaning = { modules_meaning };
 
-    fn query(&self, address: u16, _access: Access) -> Option<CallRefusal> {
-        self.reach(address).err()
+    fn query(&self, address: u16, _access: Access) -> Result<(), CallRefusal> {
+        self.reach(address)
     }
 
+    // A read and a write each choose the module: a function that lends it would have to say how the loan ends.
     fn read(&mut self, address: u16) -> Result<Done, CallRefusal> {
         self.reach(address)?;
         let module = Module::of(address);
-        let place = address as usize / 2;
-        let clocks = self.clocks(module);
+        let clocks = self.turn_to(module);
+        let place = usize::from(address) / 2;
         let value = match module {
             Module::Even => self.even.get(place),
             Module::Odd => self.odd.get(place),
         };
-        self.last = Some(module);
         Ok(Done { value, clocks })
     }
 
     fn write(&mut self, address: u16, byte: u8) -> Result<Done, CallRefusal> {
         self.reach(address)?;
         let module = Module::of(address);
-        let place = address as usize / 2;
-        let clocks = self.clocks(module);
+        let clocks = self.turn_to(module);
+        let place = usize::from(address) / 2;
         match module {
             Module::Even => self.even.put(place, byte),
             Module::Odd => self.odd.put(place, byte),
         }
-        self.last = Some(module);
         Ok(Done {
             value: byte,
             clocks,

@@ -1,30 +1,56 @@
 ghost use Rattle.std.specs.Prelude.{◌≡◌, ℕ, List, length};
+ghost use Rattle.level.specs.Level.{capped};
+ghost use Rattle.level.specs.Level.Call.{read as read_call};
 ghost use Rattle.level.specs.Memory.{Plain as Memory, plain_check, plain_rules};
+ghost use Rattle.level.specs.Told.{reported};
 ghost use Rattle.memory.specs.Answers.{memory_number};
 ghost use Rattle.memory.specs.Plains.{plain_made, plain_state};
 ghost use Rattle.memory.specs.Reach.{reached};
 ghost use Rattle.level.proofs.PlainMeaning.{plain_meaning};
 
-use crate::bytes::BytesMut;
-use crate::check::{RETURNED, check_bytes, reach};
+use crate::bytes::{Bytes, BytesMut};
+use crate::check::{RETURNED, figure_fits, judge, length_fits, reach};
 use level::{Access, Done, Level};
 use words::{CallRefusal, MemoryRefusal};
 
 // A memory over bytes that the caller lends. Each access costs the clock figure.
+// It has no `Model`: since the bytes go back to the caller, its view would be these two fields.
 #[derive(Drop)]
 pub struct Plain<B> {
-    bytes: B,
-    figure: u8,
+    pub(crate) bytes: B,
+    pub(crate) figure: u8,
 }
 
-impl<B: BytesMut> Plain<B> {
+// What needs no byte written.
+impl<B: Bytes> Plain<B> {
     // Whether a memory can be made of so many bytes and this figure. One that is made of anything else has no addresses.
     pub fn check(count: usize, figure: u8) -> Result<(), MemoryRefusal>
         ensures { (bytes : List ℕ) → length bytes ≡ count → memory_number result ≡ plain_check (plain_made bytes figure) }
     {
-        check_bytes(count, figure)
+        judge(length_fits(count), figure_fits(figure))
     }
 
+    // The refusal of an address that there is not.
+    pub(crate) fn reach(&self, address: u16) -> Result<(), CallRefusal>
+        ensures { result ≡ reached (plain_rules.size (plain_state B.Bytes.content self.now)) address }
+    {
+        let count = self.bytes.count();
+        reach(Self::check(count, self.figure), count, address)
+    }
+
+    // What a read of the address answers.
+    pub(crate) fn fetch(&self, address: u16) -> Result<Done, CallRefusal>
+        ensures { reported result ≡ capped (plain_rules.step (plain_state B.Bytes.content self.now) (read_call address)).answer }
+    {
+        self.reach(address)?;
+        Ok(Done {
+            value: self.bytes.get(usize::from(address)),
+            clocks: u32::from(self.figure),
+        })
+    }
+}
+
+impl<B: BytesMut> Plain<B> {
     pub fn new(bytes: B, figure: u8) -> Plain<B>
         ensures state { plain_state B.Bytes.content result ≡ plain_made (B.Bytes.content bytes) figure }
         ensures fresh { plain_rules.fresh (plain_state B.Bytes.content result) }
@@ -37,19 +63,7 @@ impl<B: BytesMut> Plain<B> {
     pub fn into_bytes(self) -> B
         ensures { result ≡ self.bytes }
     {
-        let Plain { bytes, figure: _ } = self;
-        bytes
-    }
-
-    // The refusal of an address that there is not.
-    fn reach(&self, address: u16) -> Result<(), CallRefusal>
-        ensures { result ≡ reached (plain_rules.size (plain_state B.Bytes.content self.now)) address }
-    {
-        let count = self.bytes.count();
-        match check_bytes(count, self.figure) {
-            Ok(()) => reach(count, address),
-            Err(_) => reach(0, address),
-        }
+        self.bytes
     }
 }
 
@@ -64,24 +78,20 @@ impl<B: BytesMut> Level for Plain<B> {
 
     ghost meaning = { plain_meaning };
 
-    fn query(&self, address: u16, _access: Access) -> Option<CallRefusal> {
-        self.reach(address).err()
+    fn query(&self, address: u16, _access: Access) -> Result<(), CallRefusal> {
+        self.reach(address)
     }
 
     fn read(&mut self, address: u16) -> Result<Done, CallRefusal> {
-        self.reach(address)?;
-        Ok(Done {
-            value: self.bytes.get(address as usize),
-            clocks: self.figure as u32,
-        })
+        self.fetch(address)
     }
 
     fn write(&mut self, address: u16, byte: u8) -> Result<Done, CallRefusal> {
         self.reach(address)?;
-        self.bytes.put(address as usize, byte);
+        self.bytes.put(usize::from(address), byte);
         Ok(Done {
             value: byte,
-            clocks: self.figure as u32,
+            clocks: u32::from(self.figure),
         })
     }
 

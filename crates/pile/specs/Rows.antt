@@ -3,7 +3,8 @@ use Rattle.std.specs.Prelude.{◌≡◌, ℕ, suc, ◌+◌, ◌*◌, ◌/◌, tr
 use Rattle.level.specs.Level.{Call, Answer, Rules}
 use Rattle.level.specs.Level.Call.{read, write, return_block, return_all}
 use Rattle.level.specs.Level.Answer.{accepted, refused}
-use Rattle.level.specs.Runs.{Log, logged}
+use Rattle.level.specs.Listed.{answers, log_of, after}
+use Rattle.level.specs.Runs.{Log}
 use Rattle.level.specs.Memory.{Plain, plain_rules}
 use Rattle.level.specs.Modules.{Modules, modules_rules}
 use Rattle.level.specs.Modules.Last.{neither}
@@ -53,19 +54,6 @@ noting = record {
 }
 
 -- ---- what calls do
-
--- the answers to calls, the first first, their log, and the state after them
-abbrev pub answers : {S : Type 0} → Rules S → S → List Call → List Answer
-answers R s [] = []
-answers R s (c ∷ cs) = let o = R.step s c in o.answer ∷ answers R o.next cs
-
-abbrev pub log_of : {S : Type 0} → Rules S → S → List Call → Log → Log
-log_of R s [] log = log
-log_of R s (c ∷ cs) log = let o = R.step s c in log_of R o.next cs (logged c o.answer log)
-
-abbrev pub after : {S : Type 0} → Rules S → S → List Call → S
-after R s [] = s
-after R s (c ∷ cs) = after R (R.step s c).next cs
 
 -- the blocks of the valid entries, from entry i on
 abbrev pub blocks_held : Shape → ℕ → List Entry → List ℕ

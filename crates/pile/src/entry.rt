@@ -6,6 +6,7 @@ ghost use Rattle.pile.specs.Table.{clean, empty, with_byte};
 #[derive(Clone, Copy)]
 pub struct Entry {
     pub tag: u16,
+    // A flag, and the entry no Option: a rule of the project has an empty entry in its place, zero throughout.
     pub valid: bool,
     pub dirty: bool,
     pub bytes: [u8; 4],

@@ -51,7 +51,7 @@ module _ {S : Type 0} {R : Rules S} (h : Meaning R) (s t : S) (log : Log) (f : R
       let back = (h.kept s u q.whole f q.run).never_back in
       let i = R.home s a in
       let m : back.0 i ≡ n = omega (arith, q.at_last back.0 back.1 a lt, e) in
-      (placed_now q.run back.0 back.1).item i (h.lodged s f a lt) ∙ ap (λ items. get_or items (back.0 i) 0) (q.same i) ∙ ap (λ k. get_or (was i) k 0) m
+      cc ((placed_now q.run back.0 back.1).item i (h.lodged s f a lt), q.same i, m)
 
   rests_at : {u : S} → Resting R t u → (a : ℕ) → a < R.size s → RestsAt R s u log a
   rests_at {u} z a lt =

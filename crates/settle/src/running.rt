@@ -1,8 +1,7 @@
-ghost use Rattle.std.specs.Prelude.{false, ◌≡◌, ◌+◌};
-ghost use Rattle.level.specs.Level.{capped, clocks as cost, topped};
+ghost use Rattle.std.specs.Prelude.{false, ◌≡◌};
+ghost use Rattle.level.specs.Level.{clocks as cost, topped};
 ghost use Rattle.level.specs.Level.Call.{read as read_call, write as write_call, return_block as return_block_call, return_all as return_all_call};
-ghost use Rattle.level.specs.Told.{reported};
-ghost use Rattle.settle.specs.Code.{Settles, Steps, session as held};
+ghost use Rattle.settle.specs.Code.{Settles, Steps, Takes, session as held};
 ghost use Rattle.settle.specs.Promise.{Counts, Rests};
 ghost use Rattle.settle.specs.Sessions.{begun};
 
@@ -12,22 +11,11 @@ use crate::slip::SaveSlip;
 use level::{Done, Level};
 use words::CallRefusal;
 
-// A pile that takes every call, with the clocks and the accepted writes since it was started or last resumed. It cannot be
-// let go: it is settled, and then ended.
+// A pile that takes every call, with the account of its calls since it was started or last resumed. It cannot be let go:
+// it is settled, and then ended.
 pub struct Running<L> {
     pile: L,
-    clocks: u32,
-    writes: u32,
-}
-
-// The clocks of an answer; a refused call costs none.
-fn clocks_of(answer: Result<Done, CallRefusal>) -> u32
-    ensures { result ≡ cost (reported answer) }
-{
-    match answer {
-        Ok(done) => done.clocks,
-        Err(_) => 0,
-    }
+    account: Account,
 }
 
 impl<L: Level> Running<L> {
@@ -40,46 +28,35 @@ impl<L: Level> Running<L> {
     {
         let running = Running {
             pile,
-            clocks: 0,
-            writes: 0,
+            account: Account::default(),
         };
         (running, SaveSlip::new())
     }
 
-    // Counts a call: its clocks, and 1 if it was an accepted write.
-    fn count(&mut self, clocks: u32, writes: u32)
-        ensures pile { self.new.pile ≡ self.old.pile }
-        ensures clocks { self.new.clocks ≡ topped (self.old.clocks + clocks) }
-        ensures writes { self.new.writes ≡ topped (self.old.writes + writes) }
-    {
-        self.clocks = self.clocks.saturating_add(clocks);
-        self.writes = self.writes.saturating_add(writes);
-    }
-
     pub fn read(&mut self, address: u16) -> Result<Done, CallRefusal>
-        ensures answer { reported result ≡ capped (L.Level.rules.step (L.Level.state self.old.pile) (read_call address)).answer }
-        ensures steps { Steps L.Level self.old (read_call address) self.new }
+        ensures { Takes L.Level self.old (read_call address) result self.new }
     {
         let answer = self.pile.read(address);
-        self.count(clocks_of(answer), 0);
+        self.account.count(answer.map_or(0, |done| done.clocks), 0);
         answer
     }
 
     pub fn write(&mut self, address: u16, byte: u8) -> Result<Done, CallRefusal>
-        ensures answer { reported result ≡ capped (L.Level.rules.step (L.Level.state self.old.pile) (write_call address byte)).answer }
-        ensures steps { Steps L.Level self.old (write_call address byte) self.new }
+        ensures { Takes L.Level self.old (write_call address byte) result self.new }
     {
         let answer = self.pile.write(address, byte);
-        self.count(clocks_of(answer), u32::from(answer.is_ok()));
+        self.account.count(
+            answer.map_or(0, |done| done.clocks),
+            u32::from(answer.is_ok()),
+        );
         answer
     }
 
     pub fn return_block(&mut self, address: u16) -> Result<Done, CallRefusal>
-        ensures answer { reported result ≡ capped (L.Level.rules.step (L.Level.state self.old.pile) (return_block_call address)).answer }
-        ensures steps { Steps L.Level self.old (return_block_call address) self.new }
+        ensures { Takes L.Level self.old (return_block_call address) result self.new }
     {
         let answer = self.pile.return_block(address);
-        self.count(clocks_of(answer), 0);
+        self.account.count(answer.map_or(0, |done| done.clocks), 0);
         answer
     }
 
@@ -88,7 +65,7 @@ impl<L: Level> Running<L> {
         ensures steps { Steps L.Level self.old return_all_call self.new }
     {
         let clocks = self.pile.return_all();
-        self.count(clocks, 0);
+        self.account.count(clocks, 0);
         clocks
     }
 
@@ -99,11 +76,7 @@ impl<L: Level> Running<L> {
     {
         let _ = self.return_all();
         slip.spend();
-        let Running {
-            pile,
-            clocks,
-            writes,
-        } = self;
-        (Settled { pile }, Account { clocks, writes })
+        let Running { pile, account } = self;
+        (Settled { pile }, account)
     }
 }

@@ -3,6 +3,7 @@ ghost use Rattle.std.specs.Prelude.{true, false, ◌≡◌};
 // A save slip stands for a run that is yet to be settled. It may be let go only when it is spent, and nothing outside this
 // crate spends it, so a slip that lapses is not proved.
 pub struct SaveSlip {
+    // A rule of the project: the slip's drop is allowed only when it is spent, and settling takes it beside the run.
     spent: bool,
 }
 
@@ -13,6 +14,7 @@ impl SaveSlip {
         SaveSlip { spent: false }
     }
 
+    // The slip is let go here, so there is nothing left to say of it.
     pub(crate) fn spend(mut self) {
         self.spent = true;
     }

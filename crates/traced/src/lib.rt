@@ -35,8 +35,7 @@ impl<B: BytesMut> Traced<B> {
     pub fn recent(&self) -> [u16; 4]
         ensures { result ≡ self.now.recent }
     {
-        let recent = self.recent;
-        recent
+        self.recent
     }
 
     // An accepted call was an access.
@@ -60,7 +59,7 @@ impl<B: BytesMut> Level for Traced<B> {
 
     ghost meaning = { traced_meaning };
 
-    fn query(&self, address: u16, access: Access) -> Option<CallRefusal> {
+    fn query(&self, address: u16, access: Access) -> Result<(), CallRefusal> {
         self.memory.query(address, access)
     }
 

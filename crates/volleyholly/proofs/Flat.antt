@@ -32,32 +32,33 @@ same_bytes : (n : ℕ) (xs ys : List ℕ) → length xs ≡ n → length ys ≡ 
 same_bytes n xs ys lx ly e = same_lists xs ys (lx ∙ sym ly) (λ k d h. get_or_default xs k d 0 h ∙ e k (omega (arith, lx)) ∙ get_or_default ys k 0 d (omega (arith, lx, ly)))
 
 module _ {Q : Type 0} (m : Shape) (P : Orders Q) (mapped : Mapped m) (ordered : Ordered P m.sets m.ways) where
-  R : Rules (Cached Plain Q)
-  R = cache_rules plain_rules m P
+  abbrev over_plain : Rules (Cached Plain Q)
+  over_plain = cache_rules plain_rules m P
 
-  means : Meaning (cache_rules plain_rules m P)
+  means : Meaning over_plain
   means = cache_meaning plain_rules m P plain_meaning mapped ordered
 
   module _ (memory : List ℕ) (figure : ℕ) (cs : List Call) (ok : plain_check (plain_made memory figure) ≡ 0) where
-    size_there : (cache_rules plain_rules m P).size (fresh_pile m P memory figure) ≡ length memory
+    abbrev fresh : Cached Plain Q
+    fresh = fresh_pile m P memory figure
+
+    size_there : over_plain.size fresh ≡ length memory
     size_there = ((memory_checks.plain_made (plain_made memory figure)).whole ok).0
 
-    shows_there : Shows (cache_rules plain_rules m P) (fresh_pile m P memory figure) (fresh_pile m P memory figure) memory
-    shows_there = record { long = sym size_there; seen = λ a l. sym (means.starts (fresh_pile m P memory figure) (refl, refl, tt) a l) }
+    shows_there : Shows over_plain fresh fresh memory
+    shows_there = record { long = sym size_there; seen = λ a l. sym (means.starts fresh (refl, refl, tt) a l) }
 
-    array_there : ArrayRun (cache_rules plain_rules m P) (fresh_pile m P memory figure) (fresh_pile m P memory figure) memory cs
-    array_there = like_array means (fresh_pile m P memory figure) (fresh_pile m P memory figure) [] (refl, refl, tt) begun memory shows_there cs
+    array_there : ArrayRun over_plain fresh fresh memory cs
+    array_there = like_array means fresh fresh [] (refl, refl, tt) begun memory shows_there cs
 
-    low_there : (cache_rules plain_rules m P).low ((cache_rules plain_rules m P).step (after (cache_rules plain_rules m P) (fresh_pile m P memory figure) cs) return_all).next
-        ≡ array_after (length memory) (λ b. false) memory cs
+    low_there : over_plain.low (over_plain.step (after over_plain fresh cs) return_all).next ≡ array_after (length memory) (λ b. false) memory cs
     low_there =
-        let fresh = fresh_pile m P memory figure in
-        let run = called (run_list {R = cache_rules plain_rules m P} cs fresh [] begun) return_all in
+        let run = called (run_list {R = over_plain} cs fresh [] begun) return_all in
         let back = (means.kept fresh _ _ (refl, refl, tt) run).never_back in
         let long = (placed_now run back.0 back.1).as_long in
-        rw (← size_there) (same_bytes ((cache_rules plain_rules m P).size fresh) _ _ (long ∙ sym size_there) array_there.shows.long array_there.returned)
+        rw (← size_there) (same_bytes (over_plain.size fresh) _ _ (long ∙ sym size_there) array_there.shows.long array_there.returned)
 
-    answers_there : AllAsArray (length memory) (λ b. false) memory cs (answers (cache_rules plain_rules m P) (fresh_pile m P memory figure) cs)
+    answers_there : AllAsArray (length memory) (λ b. false) memory cs (answers over_plain fresh cs)
     answers_there = rw (← size_there) array_there.answers
 
   pub array_law : ArrayLaw m P

@@ -1,3 +1,2 @@
-mod Refusing
 mod Fresh
 mod Flat

@@ -1,5 +1,7 @@
 -- The host call: what it returns, and what it leaves in the memory and in the bytes for the results.
-use Rattle.std.specs.Prelude.{◌≡◌, ℕ, Bool, false, cond, ◌&&◌, List, length, ◌==◌, nat_le, nat_lt}
+use Rattle.std.specs.Prelude.{◌≡◌, ℕ, Bool, false, cond, ◌&&◌, List, length, Ok, Err, Result, ◌==◌, nat_le, nat_lt}
+use Rattle.words.specs.declared.refusal.Refusal.{Refusal}
+use Rattle.words.specs.Refusals.{told}
 use Rattle.level.specs.Level.{Rules}
 use Rattle.level.specs.Level.Call.{return_all}
 use Rattle.level.specs.Arrays.{AllAsArray, array_after}
@@ -17,6 +19,11 @@ pub record Hosted : Type 0 where
   pub code : ℕ
   pub memory : List ℕ
   pub results : List ℕ
+
+-- what the call returns of a run: 0, or the number of the refusal
+abbrev pub run_number : Result (Unit {0}) Refusal → ℕ
+run_number (Ok x) = 0
+run_number (Err e) = (told e).number
 
 -- a refusal changes nothing
 abbrev pub refuse : ℕ → List ℕ → List ℕ → Hosted

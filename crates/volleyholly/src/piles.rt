@@ -1,6 +1,9 @@
-ghost use Rattle.std.specs.Prelude.{◌≡◌, true, false, MatchOption};
+ghost use Rattle.std.specs.Prelude.{◌≡◌, true, false, MatchResult};
+ghost use Rattle.words.specs.declared.refusal.Refusal.TheVariants.{UnknownPile};
 ghost use Rattle.volleyholly.specs.Host.{known};
 ghost use Rattle.volleyholly.specs.Piles.{pile_number};
+
+use words::Refusal;
 
 // The piles that the host call knows: a cache by its mapping and its policy, over plain memory.
 #[derive(Clone, Copy)]
@@ -10,16 +13,18 @@ pub(crate) enum PileKind {
     AssociativeLru,
 }
 
-impl PileKind {
-    // The pile of a number, where there is one.
-    pub(crate) fn of(number: u32) -> Option<PileKind>
-        ensures { MatchOption result (known number ≡ false) (λ kind. (known number ≡ true) × (pile_number kind ≡ number)) }
-    {
+// The pile of a number, where there is one.
+impl TryFrom<u32> for PileKind {
+    type Error = Refusal;
+
+    ghost try_from_gives = { λ number r. MatchResult r (λ kind. (known number ≡ true) × (pile_number kind ≡ number)) (λ e. (known number ≡ false) × (e ≡ UnknownPile)) };
+
+    fn try_from(number: u32) -> Result<PileKind, Refusal> {
         match number {
-            1 => Some(PileKind::DirectFifo),
-            2 => Some(PileKind::SetAssociativeFifo),
-            3 => Some(PileKind::AssociativeLru),
-            _ => None,
+            1 => Ok(PileKind::DirectFifo),
+            2 => Ok(PileKind::SetAssociativeFifo),
+            3 => Ok(PileKind::AssociativeLru),
+            _ => Err(Refusal::UnknownPile),
         }
     }
 }

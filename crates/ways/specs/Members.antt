@@ -1,7 +1,7 @@
 -- Members of lists of numbers.
 use Rattle.std.specs.Prelude.{◌≡◌, ℕ, ◌⊎◌, List, [], ◌∷◌, ◌++◌, reverse}
-use Rattle.std.proofs.Common.{sym, ap, subst, inl, inr}
-use Rattle.std.proofs.lemmas.List.{reverse-append}
+use Rattle.std.proofs.Common.{sym, ap, inl, inr, arith}
+use Rattle.std.proofs.lemmas.Grind.{reverse_onto}
 
 -- a number stands in a list
 abbrev pub In : ℕ → List ℕ → Type 0
@@ -16,10 +16,9 @@ cut x (y ∷ ys) (inr h) = let c = cut x ys h in (y ∷ c.0, c.1, ap {B = List �
 
 in_push : (x y : ℕ) (xs : List ℕ) → In x (xs ++ (y ∷ [])) → (x ≡ y) ⊎ In x xs
 in_push x y [] h = h
-in_push x y (z ∷ zs) (inl e) = inr (inl e)
-in_push x y (z ∷ zs) (inr h) = elim (in_push x y zs h) [ inl e ↦ inl e | inr k ↦ inr (inr k) ]
+in_push x y (z ∷ zs) h = grind (arith, in_push x y zs)
 
 -- a list read from the back has no other members
 pub in_reverse : (x : ℕ) (xs : List ℕ) → In x (reverse xs) → In x xs
 in_reverse x [] h = h
-in_reverse x (y ∷ ys) h = elim (in_push x y (reverse ys) (subst (In x) (reverse-append (y ∷ []) ys) h)) [ inl e ↦ inl e | inr k ↦ inr (in_reverse x ys k) ]
+in_reverse x (y ∷ ys) h = grind (arith, in_push x y (reverse ys) (rw (reverse_onto ys y []) at h), in_reverse x ys)

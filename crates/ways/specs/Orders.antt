@@ -1,7 +1,8 @@
 -- The order of a set's ways: each way once, whatever the policy was told.
-use Rattle.std.specs.Prelude.{◌≡◌, ℕ, zero, suc, ◌+◌, ◌<◌, ◌≤◌, cond, List, [], ◌∷◌, ◌++◌, ◌==◌, ◌≢◌, refl}
+use Rattle.std.specs.Prelude.{◌≡◌, ℕ, zero, suc, ◌+◌, ◌<◌, ◌≤◌, cond, List, [], ◌∷◌, ◌++◌, ◌==◌, refl}
 use Rattle.std.proofs.Common.{sym, ◌∙◌, ap, subst, inl, inr, append_assoc, arith}
-use Rattle.std.proofs.lemmas.Bool.{eq-eqb, ne_eqb, cases_eq, cases_lt}
+use Rattle.std.proofs.lemmas.Bool.{cases_eq}
+use Rattle.std.proofs.lemmas.Bool.Decides.{nat_tests}
 use Rattle.ways.specs.Ways.{Orders, Ordered, Moves, Reached, falling, last_of}
 use Rattle.ways.specs.Ways.Reached.{made, hits, loads, empties}
 use Rattle.ways.specs.Members.{In, cut}
@@ -15,20 +16,13 @@ times_append : (w : ℕ) (xs ys : List ℕ) → times w (xs ++ ys) ≡ times w x
 times_append w [] ys = omega arith
 times_append w (x ∷ xs) ys = omega (arith, times_append w xs ys)
 
-times_same : (x w : ℕ) (xs : List ℕ) → x ≡ w → times w (x ∷ xs) ≡ 1 + times w xs
-times_same x w xs e = rw (eq-eqb x w e)
-
-times_other : (x w : ℕ) (xs : List ℕ) → (x ≢ w) → times w (x ∷ xs) ≡ times w xs
-times_other x w xs e = rw (ne_eqb x w e) (omega arith)
-
 counted : (w : ℕ) (xs : List ℕ) → In w xs → 0 < times w xs
 counted w [] i = absurd i
-counted w (x ∷ xs) (inl e) = omega (arith, times_same x w xs (sym e))
-counted w (x ∷ xs) (inr i) = omega (arith, counted w xs i)
+counted w (x ∷ xs) i = grind (arith, nat_tests, counted w xs)
 
 in_counted : (w : ℕ) (xs : List ℕ) → 0 < times w xs → In w xs
 in_counted w [] h = absurd (omega arith)
-in_counted w (x ∷ xs) h = elim (cases_eq x w) [ inl e ↦ inl (sym e) | inr e ↦ inr (in_counted w xs (omega (arith, times_other x w xs e))) ]
+in_counted w (x ∷ xs) h = grind (arith, nat_tests, in_counted w xs)
 
 -- the numbers below n, each once
 pub record EachOnce (n : ℕ) (os : List ℕ) : Type 0 where
@@ -43,8 +37,7 @@ module _ {n : ℕ} {os : List ℕ} (e : EachOnce n os) where
   pub only : (w : ℕ) (front back : List ℕ) → w < n → os ≡ front ++ (w ∷ back) → (In w front → ⊥) × (In w back → ⊥)
   only w front back l is =
       let t = ap (times w) is ∙ times_append w front (w ∷ back) in
-      let u = times_same w w back refl in
-      (λ i. omega (arith, e.once w l, counted w front i), λ i. omega (arith, e.once w l, counted w back i))
+      (λ i. grind (arith, nat_tests, e.once w l, counted w front i), λ i. grind (arith, nat_tests, e.once w l, counted w back i))
 
 last_in : (x : ℕ) (xs : List ℕ) → In (last_of (x ∷ xs)) (x ∷ xs)
 last_in x [] = inl refl
@@ -52,17 +45,14 @@ last_in x (y ∷ ys) = inr (last_in y ys)
 
 pub last_below : {n : ℕ} (os : List ℕ) → EachOnce n os → 0 < n → last_of os < n
 last_below {n} [] e h = absurd (omega (arith, e.once 0 h))
-last_below {n} (x ∷ xs) e h = elim (cases_lt (last_of (x ∷ xs)) n) [ inl l ↦ l | inr l ↦ absurd (omega (arith, counted (last_of (x ∷ xs)) (x ∷ xs) (last_in x xs), e.none (last_of (x ∷ xs)) l)) ]
+last_below {n} (x ∷ xs) e h = grind (arith, e.none (last_of (x ∷ xs)), counted (last_of (x ∷ xs)) (x ∷ xs) (last_in x xs))
 
 once_falling : (n : ℕ) → EachOnce n (falling n)
 once_falling n = record { once = λ w. (is n w).0; none = λ w. (is n w).1 }
   where
     is : (n w : ℕ) → (w < n → times w (falling n) ≡ 1) × (n ≤ w → times w (falling n) ≡ 0)
     is zero w = (λ l. absurd (omega arith), λ l. refl)
-    is (suc n) w = elim (cases_eq n w) [
-      | inl e ↦ (λ l. omega (arith, times_same n w (falling n) e, (is n w).1 (omega arith)), λ l. absurd (omega arith))
-      | inr e ↦ (λ l. times_other n w (falling n) e ∙ (is n w).0 (omega arith), λ l. times_other n w (falling n) e ∙ (is n w).1 (omega arith))
-    ]
+    is (suc n) w = grind (arith, nat_tests, is n w)
 
 -- another list with the same numbers as often
 same_once : {n : ℕ} {os : List ℕ} (new : List ℕ) → ((w : ℕ) → times w new ≡ times w os) → EachOnce n os → EachOnce n new

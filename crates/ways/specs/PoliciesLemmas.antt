@@ -1,37 +1,29 @@
 -- First in, first out, and least recently used keep the laws of a policy.
-use Rattle.std.specs.Prelude.{◌≡◌, ℕ, ◌<◌, List, [], ◌∷◌, ◌++◌, reverse, length, get_or, take, ◌≢◌, slice_index_or, slice_set, refl}
-use Rattle.std.proofs.Common.{sym, ◌∙◌, ap, inl, inr, append-nil, append_assoc, arith}
-use Rattle.std.proofs.lemmas.List.{get_or-set_same, get_or-set_other, get_or_past, get_or-replicate, length-append, take_all, reverse-append, reverse-reverse}
-use Rattle.std.proofs.lemmas.Bool.{eq-eqb, ne_eqb, cases_lt}
+use Rattle.std.specs.Prelude.{◌≡◌, ℕ, ◌<◌, List, [], ◌∷◌, ◌++◌, reverse, length, get_or, ◌≢◌, slice_index_or, slice_set, refl}
+use Rattle.std.proofs.Common.{sym, ◌∙◌, ap, append-nil, arith}
+use Rattle.std.proofs.lemmas.List.{get_or-set_same, get_or-set_other, get_or_past, get_or-replicate, length-append, take_all}
+use Rattle.std.proofs.lemmas.Bool.Decides.{nat_tests}
+use Rattle.std.proofs.lemmas.Grind.{common_steps}
 use Rattle.ways.specs.Policies.{without, put_first, put_last, Queues, fifo, lru}
 use Rattle.ways.specs.Ways.{Ordered, Moves, falling}
 use Rattle.ways.specs.Members.{In, in_reverse}
 use Rattle.ways.specs.Orders.{ordered}
 
 without_one : (way : ℕ) (front back : List ℕ) → (In way front → ⊥) → without way (front ++ (way ∷ back)) ≡ front ++ back
-without_one way [] back h = rw (eq-eqb way way refl)
-without_one way (x ∷ xs) back h = rw (ne_eqb x way (λ e. h (inl (sym e)))) (ap (λ ys. x ∷ ys) (without_one way xs back (λ i. h (inr i))))
+without_one way [] back h = grind (arith, nat_tests)
+without_one way (x ∷ xs) back h = grind (arith, nat_tests, without_one way xs back)
 
 first_is : (way : ℕ) (front back : List ℕ) → (In way front → ⊥) → put_first way (front ++ (way ∷ back)) ≡ way ∷ (front ++ back)
-first_is way front back h =
-    ap (λ os. take (length (front ++ (way ∷ back))) (way ∷ os)) (without_one way front back h)
-    ∙ take_all (length (front ++ (way ∷ back))) (way ∷ (front ++ back)) (omega (arith, length-append front (way ∷ back), length-append front back))
+first_is way front back h = rw (without_one way front back h) (take_all (length (front ++ (way ∷ back))) (way ∷ (front ++ back)) (simp length-append (omega arith)))
 
 last_is : (way : ℕ) (front back : List ℕ) → (In way back → ⊥) → put_last way (front ++ (way ∷ back)) ≡ (front ++ back) ++ (way ∷ [])
 last_is way front back h =
-    let turned : reverse (front ++ (way ∷ back)) ≡ reverse back ++ (way ∷ reverse front) = reverse-append front (way ∷ back) ∙ ap (λ l. l ++ reverse front) (reverse-append (way ∷ []) back) ∙ append_assoc (reverse back) (way ∷ []) (reverse front) in
-    ap (λ l. reverse (put_first way l)) turned
-    ∙ ap reverse (first_is way (reverse back) (reverse front) (λ i. h (in_reverse way back i)) ∙ ap (λ l. way ∷ l) (sym (reverse-append front back)))
-    ∙ reverse-append (way ∷ []) (reverse (front ++ back))
-    ∙ ap (λ l. l ++ (way ∷ [])) (reverse-reverse (front ++ back))
+    let turned : reverse (front ++ (way ∷ back)) ≡ reverse back ++ (way ∷ reverse front) = grind (arith, common_steps) in
+    rw (turned, first_is way (reverse back) (reverse front) (λ i. h (in_reverse way back i))) (grind (arith, common_steps))
 
 -- a set whose order has a way is there
 within : (q : Queues) (k way : ℕ) (front back : List ℕ) → slice_index_or q k [] ≡ front ++ (way ∷ back) → k < length q
-within q k way front back is =
-    elim (cases_lt k (length q)) [
-      | inl l ↦ l
-      | inr l ↦ let e : length {A = ℕ} [] ≡ length (front ++ (way ∷ back)) = ap length (sym (get_or_past q k [] l) ∙ is) in absurd (omega (arith, length-append front (way ∷ back)))
-    ]
+within q k way front back is = grind (arith, get_or_past, length-append front (way ∷ back), ap length is)
 
 module _ (q : Queues) (k way : ℕ) (front back : List ℕ) (is : get_or q k [] ≡ front ++ (way ∷ back)) (before : In way front → ⊥) (after : In way back → ⊥) where
   changed : (change : List ℕ → List ℕ) → slice_index_or (slice_set q k (change (slice_index_or q k []))) k [] ≡ change (front ++ (way ∷ back))

@@ -1,5 +1,5 @@
 -- The orders of all sets in one row of bytes, set after set.
-use Rattle.std.specs.Prelude.{ℕ, zero, suc, ◌+◌, ◌%◌, List, [], ◌∷◌, ◌++◌, map, take, drop}
+use Rattle.std.specs.Prelude.{ℕ, zero, suc, ◌%◌, List, [], ◌∷◌, map, take, drop}
 use Rattle.ways.specs.Policies.{Queues}
 use Rattle.ways.specs.Ways.{Shape}
 
@@ -15,7 +15,3 @@ parts (suc count) size row = take size row ∷ parts count size (drop size row)
 -- the order of each set
 abbrev pub orders_of : Shape → List ℕ → Queues
 orders_of m row = parts m.sets m.ways (ways_of m.ways row)
-
--- a row with a change of the part that begins at `base`
-abbrev pub at_part : ℕ → ℕ → (List ℕ → List ℕ) → List ℕ → List ℕ
-at_part base size change row = take base row ++ (change (take size (drop base row)) ++ drop (base + size) row)

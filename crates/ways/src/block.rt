@@ -7,6 +7,7 @@ pub struct Block {
     ghost within: { number < 16384 },
 }
 
+// Made by name and not by From, which could not tell an address from a block's number.
 impl Block {
     // The block that the byte at an address lies in.
     pub fn of(address: u16) -> Block

@@ -9,9 +9,7 @@ mod slot;
 
 pub use block::Block;
 pub use mapping::Mapping;
-pub use mapping::associative::Associative;
-pub use mapping::direct::Direct;
-pub use mapping::set_associative::SetAssociative;
+pub use mapping::modulo::{Associative, Direct, Modulo, SetAssociative};
 pub use policy::Policy;
 pub use policy::fifo::Fifo;
 pub use policy::lru::Lru;

@@ -1,4 +1,5 @@
-ghost use Rattle.std.specs.Prelude.{◌≡◌, ◌%◌, ◌<◌, ◌≤◌, MatchOption};
+ghost use Rattle.std.specs.Prelude.{◌≡◌, ◌%◌, ◌<◌, ◌≤◌, map, MatchOption};
+ghost use Rattle.std.specs.List.{range_with_len};
 
 // The number of an entry in a table of eight. The entries of a set stand side by side, its way 0 first.
 #[derive(Clone, Copy)]
@@ -8,7 +9,14 @@ pub struct Slot {
 }
 
 impl Slot {
-    // The entry of a number, unless the table has none of that number.
+    // Every entry of the table, in rising order.
+    pub fn all() -> [Slot; 8]
+        ensures { map (λ slot. slot.index) result ≡ range_with_len 0 8 }
+    {
+        std::array::from_fn(Slot::wrapping)
+    }
+
+    // The entry of a number, unless the table has none of that number. No TryFrom: its error would say no more than None.
     pub fn new(index: usize) -> Option<Slot>
         ensures { MatchOption result (8 ≤ index) (λ slot. slot.index ≡ index) }
     {
@@ -19,7 +27,8 @@ impl Slot {
         }
     }
 
-    // The entry of a number. After the last entry they are counted from 0 again, so every number has one.
+    // The entry of a number. After the last entry they are counted from 0 again, so every number has one; From would not
+    // say so.
     pub fn wrapping(index: usize) -> Slot
         ensures { result.index ≡ index % 8 }
     {

@@ -1,4 +1,4 @@
-use crate::{Associative, Block, Direct, Fifo, Lru, Mapping, Policy, SetAssociative};
+use crate::{Associative, Block, Direct, Fifo, Lru, Mapping, Policy, SetAssociative, Slot};
 
 // The set and the tag of the block of an address, and the number of the block that they join to.
 fn there_and_back<M: Mapping>(address: u16) -> (u8, u16, u16) {
@@ -40,4 +40,12 @@ fn victim_after_hit<P: Policy<SetAssociative> + Drop>() -> usize {
 fn hits(rt: HostRuntime) {
     assert_eq!(rt; victim_after_hit::<Fifo>(), 0);
     assert_eq!(rt; victim_after_hit::<Lru>(), 1);
+}
+
+#[test]
+fn all_slots(rt: HostRuntime) {
+    assert_eq!(rt;
+        Slot::all().map(|slot| slot.index()),
+        [0, 1, 2, 3, 4, 5, 6, 7]
+    );
 }

@@ -1,3 +1,1 @@
 mod Justified
-mod Spelled
-mod Words

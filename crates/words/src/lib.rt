@@ -13,7 +13,7 @@ pub use list::{LONGEST_LIST, ListSummary, check_list};
 pub use reader::Reader;
 pub use refusal::{CallRefusal, GuardRefusal, ListRefusal, MemoryRefusal, Refusal};
 pub use request::{Operation, Request, Word};
-pub use result::CallResult;
+pub use result::{Accepted, CallResult, ResultWord};
 pub use wait::Wait;
 
 #[cfg(test)]

@@ -5,6 +5,7 @@ ghost use Rattle.std.specs.Iterator.{at_most};
 use crate::request::Word;
 
 // Goes through a list word by word, and tells each word's place.
+// By a rule of the project it is the rest of the list and a place, and a word goes off as four named bytes.
 #[derive(Drop)]
 pub struct Reader<'a> {
     rest: &'a [u8],

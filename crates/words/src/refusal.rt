@@ -1,7 +1,12 @@
-ghost use Rattle.std.specs.Prelude.{◌≡◌, slice_index};
+ghost use Rattle.std.specs.Prelude.{◌≡◌, Some, slice_get, slice_index};
 ghost use Rattle.words.specs.Refusals.{told};
+ghost use Rattle.words.specs.Shown.{call_refusal_text, list_refusal_text};
+ghost use Rattle.words.specs.declared.refusal.Refusal.TheVariants.{Call, Guard, List as OfList, Memory};
 
-// Why a level refused a call. The depth is 0 at the level that refused, and each level above adds 1.
+use std::fmt;
+
+// Why a level refused a call. The depth is 0 at the level that refused, and each level above adds 1. The cause is the
+// variant, so that a caller matches it by name; a struct with a cause inside would be matched in two steps.
 #[derive(Clone, Copy, PartialEq, Eq, Debug)]
 pub enum CallRefusal {
     OutOfRange { address: u16, depth: u8 },
@@ -60,13 +65,46 @@ impl Refusal {
     }
 }
 
+impl From<CallRefusal> for Refusal {
+    ghost from_gives = { λ e r. r ≡ Call e };
+
+    fn from(refusal: CallRefusal) -> Refusal {
+        Refusal::Call(refusal)
+    }
+}
+
+impl From<MemoryRefusal> for Refusal {
+    ghost from_gives = { λ e r. r ≡ Memory e };
+
+    fn from(refusal: MemoryRefusal) -> Refusal {
+        Refusal::Memory(refusal)
+    }
+}
+
+impl From<GuardRefusal> for Refusal {
+    ghost from_gives = { λ e r. r ≡ Guard e };
+
+    fn from(refusal: GuardRefusal) -> Refusal {
+        Refusal::Guard(refusal)
+    }
+}
+
+impl From<ListRefusal> for Refusal {
+    ghost from_gives = { λ e r. r ≡ OfList e };
+
+    fn from(refusal: ListRefusal) -> Refusal {
+        Refusal::List(refusal)
+    }
+}
+
 impl CallRefusal {
     pub fn address(self) -> u16
         ensures { result ≡ slice_index (told (Refusal.Call self)).values 0 }
     {
         match self {
-            CallRefusal::OutOfRange { address, .. } => address,
-            CallRefusal::ReadOnly { address, .. } => address,
+            CallRefusal::OutOfRange { address, .. } | CallRefusal::ReadOnly { address, .. } => {
+                address
+            }
         }
     }
 
@@ -74,20 +112,42 @@ impl CallRefusal {
         ensures { result ≡ slice_index (told (Refusal.Call self)).values 1 }
     {
         match self {
-            CallRefusal::OutOfRange { depth, .. } => depth,
-            CallRefusal::ReadOnly { depth, .. } => depth,
+            CallRefusal::OutOfRange { depth, .. } | CallRefusal::ReadOnly { depth, .. } => depth,
         }
     }
 }
 
+// As in a printed list: the cause, the address and the depth.
+impl fmt::Display for CallRefusal {
+    ghost output = { λ e. Some (call_refusal_text e) };
+
+    fn fmt<W: fmt::Write>(&self, f: &mut fmt::Formatter<W>) -> fmt::Result {
+        let cause = Refusal::from(*self).number();
+        let address = self.address();
+        let depth = self.depth();
+        write!(f, "no {cause} {address} {depth}")
+    }
+}
+
 impl ListRefusal {
-    // The number of the word that is outside the layout, or 0 where no word is to blame.
-    pub fn word(self) -> usize
-        ensures { result ≡ slice_index (told (Refusal.List self)).values 0 }
+    // The number of the word that is outside the layout, or none where no word is to blame.
+    pub fn word(self) -> Option<usize>
+        ensures { result ≡ slice_get (told (Refusal.List self)).values 0 }
     {
         match self {
-            ListRefusal::Size => 0,
-            ListRefusal::Layout { word } => word,
+            ListRefusal::Size => None,
+            ListRefusal::Layout { word } => Some(word),
         }
+    }
+}
+
+// As in a printed list: the cause, and the number of the word to blame or 0.
+impl fmt::Display for ListRefusal {
+    ghost output = { λ e. Some (list_refusal_text e) };
+
+    fn fmt<W: fmt::Write>(&self, f: &mut fmt::Formatter<W>) -> fmt::Result {
+        let cause = Refusal::from(*self).number();
+        let word = self.word().unwrap_or(0);
+        write!(f, "no {cause} {word}")
     }
 }

@@ -3,9 +3,11 @@ ghost use Rattle.std.specs.Option.{option_map};
 ghost use Rattle.std.specs.Result.{result_ok};
 ghost use Rattle.words.specs.Refusals.{told};
 ghost use Rattle.words.specs.Requests.{address, asked, decoded, letter, word};
+ghost use Rattle.words.specs.Shown.{operation_text};
 
 use crate::refusal::{ListRefusal, Refusal};
 use crate::wait::Wait;
+use std::fmt;
 
 // What a request asks of a pile.
 #[derive(Clone, Copy, PartialEq, Eq, Debug)]
@@ -36,9 +38,9 @@ impl Operation {
         ensures { result ≡ address self }
     {
         match self {
-            Operation::Read { address } => address,
-            Operation::Write { address, .. } => address,
-            Operation::ReturnBlock { address } => address,
+            Operation::Read { address }
+            | Operation::Write { address, .. }
+            | Operation::ReturnBlock { address } => address,
             Operation::ReturnAll => 0,
         }
     }
@@ -56,8 +58,19 @@ impl Operation {
     }
 }
 
+// As in a printed list: letter and address.
+impl fmt::Display for Operation {
+    ghost output = { λ o. Some (operation_text o) };
+
+    fn fmt<W: fmt::Write>(&self, f: &mut fmt::Formatter<W>) -> fmt::Result {
+        let letter = self.letter();
+        let address = self.address();
+        write!(f, "{letter} {address}")
+    }
+}
+
 impl Request {
-    // The request word.
+    // The request word. A method, as `to_be_bytes` is one: its name says what the four bytes are, and `from` would not.
     pub fn encode(self) -> [u8; 4]
         ensures value { result ≡ word self }
         ensures back { decoded result ≡ Some (asked self) }
@@ -86,7 +99,8 @@ impl Word {
     // valid bit is a request, a write takes any data, and a full return no address.
     const BOUNDS: [u32; 8] = [0, 0, 0, 0, 1 << 16, 1 << 24, 1 << 16, 1];
 
-    // The request of this word, or the refusal of a word outside the layout.
+    // The request of this word, or the refusal of a word outside the layout. A method, as the way back of `encode`.
+    // By a rule of the project the mode is matched, with guards on the data and the address.
     pub fn decode(self) -> Result<Request, ListRefusal>
         ensures value { option_map asked (result_ok result) ≡ decoded self.bytes }
         ensures back { IfOk result (λ q. word q ≡ self.bytes) }

@@ -1,6 +1,6 @@
 use crate::{
-    CallRefusal, CallResult, ListRefusal, ListSummary, Operation, Reader, Request, Wait, Word,
-    check_list,
+    Accepted, CallRefusal, CallResult, ListRefusal, ListSummary, Operation, Reader, Request,
+    ResultWord, Wait, Word, check_list,
 };
 use std::process::Abort;
 use std::test::Fail;
@@ -18,6 +18,10 @@ fn refused(rt: &impl Abort, list: &[u8], refusal: ListRefusal) {
 
 fn request(bytes: [u8; 4]) -> Result<Request, ListRefusal> {
     Word { place: 3, bytes }.decode()
+}
+
+fn told(bytes: [u8; 8]) -> Option<CallResult> {
+    ResultWord { bytes }.decode()
 }
 
 #[test]
@@ -86,22 +90,22 @@ fn the_reader_counts_from_one(rt: HostRuntime) -> Result<(), Fail> {
 
 #[test]
 fn result_words(rt: HostRuntime) {
-    let refusal = CallResult::Refused(CallRefusal::ReadOnly {
+    let refusal = Err(CallRefusal::ReadOnly {
         address: 9,
         depth: 1,
     });
-    assert_eq!(rt; refusal.encode(), [0x82, 1, 0, 9, 0, 0, 0, 0]);
     assert_eq!(rt;
-        CallResult::decode([0x82, 1, 0, 9, 0, 0, 0, 0]),
-        Some(refusal)
+        ResultWord::from(refusal).bytes,
+        [0x82, 1, 0, 9, 0, 0, 0, 0]
     );
-    assert_eq!(rt; CallResult::decode([0x82, 1, 0, 9, 0, 0, 0, 1]), None);
-    assert_eq!(rt; CallResult::decode([0x83, 1, 0, 9, 0, 0, 0, 0]), None);
-    let read = CallResult::Accepted {
+    assert_eq!(rt; told([0x82, 1, 0, 9, 0, 0, 0, 0]), Some(refusal));
+    assert_eq!(rt; told([0x82, 1, 0, 9, 0, 0, 0, 1]), None);
+    assert_eq!(rt; told([0x83, 1, 0, 9, 0, 0, 0, 0]), None);
+    let read = Ok(Accepted {
         value: 7,
         address: 18,
         clocks: 22,
-    };
-    assert_eq!(rt; read.encode(), [0, 7, 0, 18, 0, 0, 0, 22]);
-    assert_eq!(rt; CallResult::decode([1, 7, 0, 18, 0, 0, 0, 22]), None);
+    });
+    assert_eq!(rt; ResultWord::from(read).bytes, [0, 7, 0, 18, 0, 0, 0, 22]);
+    assert_eq!(rt; told([1, 7, 0, 18, 0, 0, 0, 22]), None);
 }

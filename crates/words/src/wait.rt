@@ -11,6 +11,7 @@ impl Wait {
     pub const LONGEST: u8 = 31;
 
     // The wait of so many clocks, or none where five bits do not hold them.
+    // No `try_from`: it would want an error type, which had nothing to tell.
     pub fn new(clocks: u8) -> Option<Wait>
         ensures { MatchOption result (32 ≤ clocks) (λ wait. wait.clocks ≡ clocks) }
     {

@@ -1,7 +1,7 @@
-use super::Bytes;
+use super::{Bytes, byte_at};
 
 // Bytes that the caller lets be read.
-impl<'a> Bytes for &'a [u8] {
+impl Bytes for &[u8] {
     ghost content = { λ s. s.now };
 
     fn count(&self) -> usize {
@@ -9,6 +9,6 @@ impl<'a> Bytes for &'a [u8] {
     }
 
     fn get(&self, place: usize) -> u8 {
-        if place < self.len() { self[place] } else { 0 }
+        byte_at(self, place)
     }
 }

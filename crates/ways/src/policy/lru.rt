@@ -3,21 +3,22 @@ ghost use Rattle.ways.specs.Row.{orders_of};
 ghost use Rattle.ways.specs.PoliciesLemmas.{lru_ordered};
 
 use super::Policy;
-use super::order::{fresh_row, last_slot, put_first, put_last};
+use super::order::Row;
 use crate::block::Block;
 use crate::mapping::Mapping;
 use crate::slot::Slot;
 
-// The block that was not called for longest is given up first.
+// The block that was not called for longest is given up first. A type of its own beside Fifo, not a flag: a name says which
+// of the two is meant, and what a hit does is all that differs.
 #[derive(Drop)]
 pub struct Lru {
-    row: [u8; 8],
+    row: Row,
 }
 
 impl<M: Mapping> Policy<M> for Lru {
     ghost State = { Queues };
 
-    ghost state = { λ p. orders_of M.Mapping.shape p.row };
+    ghost state = { λ p. orders_of M.Mapping.shape p.row.bytes };
 
     ghost orders = { lru };
 
@@ -25,23 +26,23 @@ impl<M: Mapping> Policy<M> for Lru {
 
     fn fresh() -> Self {
         Lru {
-            row: fresh_row::<M>(),
+            row: Row::fresh::<M>(),
         }
     }
 
     fn victim(&self, block: Block) -> Slot {
-        last_slot::<M>(&self.row, block)
+        self.row.last::<M>(block)
     }
 
     fn hit(&mut self, slot: Slot) {
-        put_first::<M>(&mut self.row, slot);
+        self.row.put_first::<M>(slot);
     }
 
     fn loaded(&mut self, slot: Slot) {
-        put_first::<M>(&mut self.row, slot);
+        self.row.put_first::<M>(slot);
     }
 
     fn emptied(&mut self, slot: Slot) {
-        put_last::<M>(&mut self.row, slot);
+        self.row.put_last::<M>(slot);
     }
 }

@@ -1,6 +1,6 @@
-ghost use Rattle.std.specs.Prelude.{◌≡◌, ℕ, ◌+◌, ◌-◌, ◌*◌, ◌%◌, ◌<◌, ◌≤◌, [], slice_index, slice_index_or};
+ghost use Rattle.std.specs.Prelude.{◌≡◌, ℕ, ◌+◌, ◌-◌, ◌*◌, ◌%◌, ◌<◌, ◌≤◌, [], length, slice_index, slice_index_or};
 ghost use Rattle.ways.specs.Policies.{put_first, put_last, first_in, last_in, fresh};
-ghost use Rattle.ways.specs.Row.{ways_of, orders_of, at_part};
+ghost use Rattle.ways.specs.Row.{ways_of, orders_of};
 ghost use Rattle.ways.specs.Slots.{set_of, way_of, at_slot, Victim};
 
 use crate::block::Block;
@@ -9,38 +9,55 @@ use crate::slot::Slot;
 
 // The orders of all sets, in one row of bytes: each set has as many places as there are ways.
 // A byte is read modulo the number of ways, so every row has an order for each set.
-
-// The row for a table whose entries are empty.
-pub(super) fn fresh_row<M: Mapping>() -> [u8; 8]
-    ensures { orders_of M.Mapping.shape result ≡ fresh M.Mapping.shape.sets M.Mapping.shape.ways }
-{
-    new_row(M::way_count())
+#[derive(Drop)]
+pub(super) struct Row {
+    pub(super) bytes: [u8; 8],
 }
 
-// The slot of the last way of a block's set.
-pub(super) fn last_slot<M: Mapping>(row: &[u8; 8], block: Block) -> Slot
-    ensures { Victim M.Mapping.shape (λ set. slice_index_or (orders_of M.Mapping.shape row.now) set []) block.number result.index }
-{
-    let (set, _) = M::split(block);
-    let ways = M::way_count();
-    let base = set as usize * ways;
-    Slot::wrapping(base + way_at(row, base + ways - 1, ways))
+impl Row {
+    // The row for a table whose entries are empty.
+    pub(super) fn fresh<M: Mapping>() -> Row
+        ensures { orders_of M.Mapping.shape result.bytes ≡ fresh M.Mapping.shape.sets M.Mapping.shape.ways }
+    {
+        Row {
+            bytes: new_row(M::WAYS),
+        }
+    }
+
+    // The slot of the last way of a block's set.
+    pub(super) fn last<M: Mapping>(&self, block: Block) -> Slot
+        ensures { Victim M.Mapping.shape (λ set. slice_index_or (orders_of M.Mapping.shape self.now.bytes) set []) block.number result.index }
+    {
+        let ways = M::WAYS;
+        let (set, _) = M::split(block);
+        let base = set as usize * ways;
+        let last = self.bytes[base + ways - 1];
+        Slot::wrapping(base + last as usize % ways)
+    }
+
+    // The way of a slot goes first in its set.
+    pub(super) fn put_first<M: Mapping>(&mut self, slot: Slot)
+        ensures { orders_of M.Mapping.shape self.new.bytes ≡ at_slot M.Mapping.shape first_in (orders_of M.Mapping.shape self.old.bytes) slot.index }
+    {
+        let (base, way) = place::<M>(slot);
+        to_front(&mut self.bytes[base..base + M::WAYS], way);
+    }
+
+    // The way of a slot goes last in its set.
+    pub(super) fn put_last<M: Mapping>(&mut self, slot: Slot)
+        ensures { orders_of M.Mapping.shape self.new.bytes ≡ at_slot M.Mapping.shape last_in (orders_of M.Mapping.shape self.old.bytes) slot.index }
+    {
+        let (base, way) = place::<M>(slot);
+        to_back(&mut self.bytes[base..base + M::WAYS], way);
+    }
 }
 
-// The way of a slot goes first in its set.
-pub(super) fn put_first<M: Mapping>(row: &mut [u8; 8], slot: Slot)
-    ensures { orders_of M.Mapping.shape row.new ≡ at_slot M.Mapping.shape first_in (orders_of M.Mapping.shape row.old) slot.index }
+// In each set the highest way is first.
+fn new_row(ways: usize) -> [u8; 8]
+    requires { (0 < ways) × (ways ≤ 8) }
+    ensures { (k : ℕ) → k < 8 → slice_index result k ≡ ways - 1 - k % ways }
 {
-    let (base, way) = place::<M>(slot);
-    to_front(row, base, M::way_count(), way);
-}
-
-// The way of a slot goes last in its set.
-pub(super) fn put_last<M: Mapping>(row: &mut [u8; 8], slot: Slot)
-    ensures { orders_of M.Mapping.shape row.new ≡ at_slot M.Mapping.shape last_in (orders_of M.Mapping.shape row.old) slot.index }
-{
-    let (base, way) = place::<M>(slot);
-    to_back(row, base, M::way_count(), way);
+    std::array::from_fn(|place| (ways - 1 - place % ways) as u8)
 }
 
 // The first place of a slot's set, and the slot's way.
@@ -50,41 +67,21 @@ fn place<M: Mapping>(slot: Slot) -> (usize, usize)
     ensures within { result.0 + M.Mapping.shape.ways ≤ 8 }
     ensures below { result.1 < M.Mapping.shape.ways }
 {
-    let ways = M::way_count();
     let index = slot.index();
-    (index / ways * ways, index % ways)
+    (index / M::WAYS * M::WAYS, index % M::WAYS)
 }
 
-// In each set the highest way is first.
-fn new_row(ways: usize) -> [u8; 8]
-    requires { (0 < ways) × (ways ≤ 8) }
-    ensures { (k : ℕ) → k < 8 → slice_index result k ≡ ways - 1 - k % ways }
+// A way goes first in an order; the ones before it move back by one place. A loop, since `position` and `rotate_right`
+// take longer for a way that is not first.
+fn to_front(order: &mut [u8], way: usize)
+    requires { (way < length order.old) × (length order.old ≤ 8) }
+    ensures { ways_of (length order.old) order.new ≡ put_first way (ways_of (length order.old) order.old) }
 {
-    let mut row = [0; 8];
-    for i in 0..8 {
-        row[i] = (ways - 1 - i % ways) as u8;
-    }
-    row
-}
-
-// The way that the byte at a place stands for.
-fn way_at(row: &[u8; 8], i: usize, ways: usize) -> usize
-    requires { (i < 8) × (0 < ways) }
-    ensures way { result ≡ slice_index (ways_of ways row.now) i }
-    ensures below { result < ways }
-{
-    row[i] as usize % ways
-}
-
-// A way goes first among those from `base` on; the ones before it move back by one place.
-fn to_front(row: &mut [u8; 8], base: usize, ways: usize, way: usize)
-    requires { (base + ways ≤ 8) × (way < ways) }
-    ensures { ways_of ways row.new ≡ at_part base ways (put_first way) (ways_of ways row.old) }
-{
+    let ways = order.len();
     let mut carried = way;
-    for i in base..base + ways {
-        let met = way_at(row, i, ways);
-        row[i] = carried as u8;
+    for byte in order.iter_mut() {
+        let met = *byte as usize % ways;
+        *byte = carried as u8;
         // The ways behind it stay, and one that is first already costs a single turn.
         if met == way {
             return;
@@ -93,15 +90,17 @@ fn to_front(row: &mut [u8; 8], base: usize, ways: usize, way: usize)
     }
 }
 
-// A way goes last among those from `base` on; the ones behind it move forward by one place.
-fn to_back(row: &mut [u8; 8], base: usize, ways: usize, way: usize)
-    requires { (base + ways ≤ 8) × (way < ways) }
-    ensures { ways_of ways row.new ≡ at_part base ways (put_last way) (ways_of ways row.old) }
+// A way goes last in an order; the ones behind it move forward by one place.
+fn to_back(order: &mut [u8], way: usize)
+    requires { (way < length order.old) × (length order.old ≤ 8) }
+    ensures { ways_of (length order.old) order.new ≡ put_last way (ways_of (length order.old) order.old) }
 {
+    let ways = order.len();
     let mut carried = way;
-    for i in (base..base + ways).rev() {
-        let met = way_at(row, i, ways);
-        row[i] = carried as u8;
+    // By place, since a proof knows nothing of what was written through `iter_mut().rev()`.
+    for i in (0..ways).rev() {
+        let met = order[i] as usize % ways;
+        order[i] = carried as u8;
         if met == way {
             return;
         }

@@ -1,13 +1,19 @@
-use Rattle.ways.proofs.Places.{base_fits}
-use Rattle.cache.proofs.Slots.{found}
+use Rattle.std.proofs.Common.{◌∙◌, ◌*◌, rules}
+use Rattle.cache.proofs.Finds.{position_find}
+use Rattle.cache.proofs.Slots.{has_entry}
 use Rattle.cache.proofs.cache.Cache.lookup.Goals as goal
 
-pub find-requires : goal.find-requires
-find-requires g c =
-    let fits = base_fits _ _ g.met.M.Mapping.mapped.product c.split-set.result.0 c.split-set.ensures.below in
-    rw c.way_count-ways.ensures fits
+pub returns-in_err-way : goal.returns-in_err-way
+returns-in_err-way g c =
+    let look = position_find c.args.self.now.table.entries (c.split-set.result.0 * c.WAYS.result) c.split-set.result.1 c.WAYS-2.result in
+    let ways = c.WAYS.ensures ∙ g.met.M.Mapping.counts.1 in
+    let again = c.WAYS-2.ensures ∙ g.met.M.Mapping.counts.1 in
+    search rules
 
-pub returns-in-Some : goal.returns-in-Some
-returns-in-Some g c =
-    let there = found g.M.Mapping.shape g.met.M.Mapping.mapped.product c.args.self.now.table.entries c.args.block.number c.split-set.result c.way_count-ways.result c.in-Some.way c.split-set.ensures.pair c.way_count-ways.ensures c.split-set.ensures.below c.in-Some.ensures.below c.new.result c.in-Some.ensures.way c.new.ensures in
-    record { way = there.0; set = there.1 }
+pub returns : goal.returns
+returns g c =
+    let look = position_find c.args.self.now.table.entries (c.split-set.result.0 * c.WAYS.result) c.split-set.result.1 c.WAYS-2.result in
+    let ways = c.WAYS.ensures ∙ g.met.M.Mapping.counts.1 in
+    let again = c.WAYS-2.ensures ∙ g.met.M.Mapping.counts.1 in
+    let there = has_entry g.M.Mapping.shape g.met.M.Mapping.mapped.product c.split-set.result.0 c.in_ok-way.way c.split-set.ensures.below (rw (← again) c.in_ok-way.ensures.below) c.new.result (rw (← ways) c.new.ensures) in
+    search rules

@@ -1,8 +1,5 @@
-use Rattle.std.proofs.Common.{rules}
 use Rattle.pile.proofs.Whole.{whole_promise}
 use Rattle.cache.proofs.cache.Cache.over.Goals as goal
 
-pub returns : goal.returns
-returns g c =
-    let promise = whole_promise g.met.L.Level.meaning g.met.M.Mapping.mapped g.met.P.Policy.ordered in
-    search rules
+pub returns-clause-promise : goal.returns-clause-promise
+returns-clause-promise g c = whole_promise g.met.L.Level.meaning g.met.M.Mapping.mapped g.met.P.Policy.ordered

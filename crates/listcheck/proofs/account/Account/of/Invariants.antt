@@ -1,7 +1,8 @@
 use Rattle.std.proofs.Common.{◌≡◌, ◌+◌, ◌≤◌}
 use Rattle.std.specs.BTreeSet.{contains, IsOrdered, btree_set_len}
 use Rattle.words.specs.Lists.{words}
-use Rattle.listcheck.specs.Account.{count, distinct_blocks, new_blocks, operations, reading, returning, writing}
+use Rattle.words.specs.Requests.{operations}
+use Rattle.listcheck.specs.Account.{count, distinct_blocks, new_blocks, reading, returning, writing}
 use Rattle.listcheck.proofs.account.Account.of.Given as goal
 use Rattle.std.specs.Ordering.{nat_cmp}
 

@@ -1,6 +1,5 @@
-use borrow.Author.Rules.{rules}
 use Rattle.settle.proofs.Counting.{counts}
 use Rattle.settle.proofs.running.Running.start.Goals as goal
 
-pub returns : goal.returns
-returns g c = record { session = search rules; slip = search rules; lent = search rules; counts = counts g.L.Level.rules }
+pub returns-clause-counts : goal.returns-clause-counts
+returns-clause-counts g c = counts g.L.Level.rules

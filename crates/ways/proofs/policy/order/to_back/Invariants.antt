@@ -1,8 +1,11 @@
-use Rattle.std.proofs.Common.{◌≡◌, ◌-◌, ◌<◌}
-use Rattle.ways.specs.Policies.{put_last}
-use Rattle.ways.specs.Row.{ways_of, at_part}
-use Rattle.ways.proofs.Turns.{carry_back}
+use Rattle.std.proofs.Common.{◌≡◌, ◌-◌, ◌<◌, reverse}
+use Rattle.ways.specs.Policies.{put_first}
+use Rattle.ways.specs.Row.{ways_of}
+use Rattle.ways.proofs.Turns.{carrying}
 use Rattle.ways.proofs.policy.order.to_back.Given as goal
 
 abbrev pub invariant-loop-i : goal.invariant-loop-i
-invariant-loop-i l = (l.carried < l.ways) × (at_part l.base (l.i - l.base) (carry_back l.carried l.way) (ways_of l.ways l.row) ≡ at_part l.base l.ways (put_last l.way) (ways_of l.ways l.initial.row))
+invariant-loop-i l = record {
+  below : l.carried < l.ways;
+  turns : carrying (l.ways - l.i) l.carried l.way (reverse (ways_of l.ways l.order)) ≡ put_first l.way (reverse (ways_of l.ways l.initial.order));
+}

@@ -1,8 +1,11 @@
-use Rattle.std.proofs.Common.{◌≡◌, ◌+◌, ◌-◌, ◌<◌}
+use Rattle.std.proofs.Common.{◌≡◌, ◌<◌}
 use Rattle.ways.specs.Policies.{put_first}
-use Rattle.ways.specs.Row.{ways_of, at_part}
-use Rattle.ways.proofs.Turns.{carry}
+use Rattle.ways.specs.Row.{ways_of}
+use Rattle.ways.proofs.Turns.{carrying}
 use Rattle.ways.proofs.policy.order.to_front.Given as goal
 
-abbrev pub invariant-loop-i : goal.invariant-loop-i
-invariant-loop-i l = (l.carried < l.ways) × (at_part l.i (l.base + l.ways - l.i) (carry l.carried l.way) (ways_of l.ways l.row) ≡ at_part l.base l.ways (put_first l.way) (ways_of l.ways l.initial.row))
+abbrev pub invariant-loop-byte : goal.invariant-loop-byte
+invariant-loop-byte l = record {
+  below : l.carried < l.ways;
+  turns : carrying l.byte-index l.carried l.way (ways_of l.ways l.order) ≡ put_first l.way (ways_of l.ways l.initial.order);
+}
