@@ -2,7 +2,7 @@
 
 #![tactic(auto)]
 
-use anyhow::anyhow;
+use anyhow::ensure;
 use cache::Cache;
 use level::{Done, Level};
 use memory::{Guard, Modules, Plain};
@@ -21,14 +21,11 @@ fn main(rt: HostRuntime) -> anyhow::Result<()> {
     sheet.put(&rt, &builder_rows())?;
     let Sheet { agree, rows } = sheet;
     println!(rt; "{agree} of {rows} agree")?;
-    if agree == rows {
-        Ok(())
-    } else {
-        Err(anyhow!("a row disagrees"))
-    }
+    ensure!(agree == rows, "a row disagrees");
+    Ok(())
 }
 
-// What was asked, what was wanted and what came, four numbers each.
+// What was asked, what was wanted and what came: four numbers each, as the sheet has them, a refusal by its number.
 type Row = (&'static str, [u32; 4], [u32; 4]);
 
 // How many rows came out as they should, of how many.
@@ -39,7 +36,7 @@ struct Sheet {
 }
 
 impl Sheet {
-    // Prints a line for each row, and counts them on.
+    // Prints a line for each row. The rows are counted from one part of the sheet to the next.
     fn put(&mut self, rt: &HostRuntime, rows: &[Row]) -> anyhow::Result<()> {
         for (asked, wanted, came) in rows {
             self.rows = self.rows.saturating_add(1);
@@ -75,7 +72,7 @@ fn clocks(answer: Result<Done, CallRefusal>) -> u32 {
     answer.map_or(0, |done| done.clocks)
 }
 
-// An empty cache over plain memory, whose figure is 3 on the whole sheet.
+// An empty cache over plain memory, whose figure is 3 on the whole sheet. One line is no crate to share with other programs.
 fn cached<'a, M: Mapping, P: Policy<M>>(bytes: &'a mut [u8]) -> Cache<Plain<&'a mut [u8]>, M, P> {
     Cache::over(Plain::new(bytes, 3))
 }

@@ -1,4 +1,4 @@
-ghost use Rattle.std.specs.Prelude.{◌≡◌, ◌<◌};
+ghost use Rattle.std.specs.Prelude.{◌≡◌};
 ghost use Rattle.pile.specs.Promise.{WholePromise};
 ghost use Rattle.ways.specs.Slots.{set_of};
 ghost use Rattle.cache.specs.Steps.{StateOf, held, rules_of, empty_over, LooksUp, Flushes, Loads, Readies, Reads, Writes, Evicts, EvictsBlock, EvictsAt, EvictsAll, Returns};
@@ -58,8 +58,9 @@ impl<L: Level, M: Mapping, P: Policy<M>> Cache<L, M, P> {
         ensures { LooksUp L.Level M.Mapping P.Policy self.now block.number result }
     {
         let (set, tag) = M::split(block);
-        let base = set as usize * M::WAYS;
-        let way = self.table.find(base, M::WAYS, tag)?;
+        let ways = M::WAYS;
+        let base = set as usize * ways;
+        let way = self.table.find(base, ways, tag)?;
         Slot::new(base + way)
     }
 
@@ -167,7 +168,7 @@ impl<L: Level, M: Mapping, P: Policy<M>> Cache<L, M, P> {
         }
     }
 
-    // An entry, where it is valid.
+    // Evicts an entry, where it is valid.
     fn evict_at(&mut self, slot: Slot) -> u32
         ensures { EvictsAt L.Level M.Mapping P.Policy self.old slot.index result self.new }
     {

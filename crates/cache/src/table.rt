@@ -3,7 +3,8 @@ ghost use Rattle.pile.specs.Table.{empties};
 
 use pile::Entry;
 
-// The eight entries of a cache. The entries of a set stand side by side, its way 0 first.
+// The eight entries of a cache. The entries of a set stand side by side, its way 0 first: one row, since a full return goes
+// through it in that order, and since a trait's constant is no array length.
 #[derive(Drop)]
 pub(crate) struct Table {
     pub(crate) entries: [Entry; 8],

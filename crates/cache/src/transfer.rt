@@ -1,7 +1,7 @@
 ghost use Rattle.std.specs.Prelude.{◌≡◌, ◌+◌, ◌<◌, ◌≤◌, slice_set};
 ghost use Rattle.cache.specs.Transfer.{SendsByte, FetchesByte, byte_below, Sends, Fetches};
 
-use level::{Done, Level};
+use level::Level;
 use ways::Block;
 
 // A byte is written below: 1 clock and those of the write. A refusal has no clocks.
@@ -14,8 +14,8 @@ fn send_byte<L: Level>(below: &mut L, address: u16, byte: u8) -> u32
         .saturating_add(1)
 }
 
-// A block is written below, its first byte first. Four calls in a row need no loop that counts addresses beside the
-// bytes.
+// A block is written below, its first byte first. Four calls in a row are as long as a loop over the four bytes and
+// their addresses, and need no invariant.
 pub(crate) fn send<L: Level>(below: &mut L, block: Block, bytes: [u8; 4]) -> u32
     ensures { Sends L.Level below.old block.number bytes result below.new }
 {
@@ -34,16 +34,13 @@ fn fetch_byte<L: Level>(below: &mut L, address: u16, place: u16, bytes: &mut [u8
     ensures below { FetchesByte L.Level below.old (address + place) result below.new }
     ensures bytes { bytes.new ≡ slice_set bytes.old place (byte_below L.Level below.old (address + place)) }
 {
-    let done = below.read(address + place).unwrap_or(Done {
-        value: 0,
-        clocks: 0,
-    });
+    let done = below.read(address + place).unwrap_or_default();
     bytes[place as usize] = done.value;
     done.clocks.saturating_add(2)
 }
 
 // The block of an address is read from below, from the called byte on and round: its bytes, and the clocks. Four calls in
-// a row need no loop that counts places.
+// a row, as in `send`.
 pub(crate) fn fetch<L: Level>(below: &mut L, address: u16) -> ([u8; 4], u32)
     ensures { Fetches L.Level below.old address result.1 result.0 below.new }
 {

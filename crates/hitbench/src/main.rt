@@ -28,7 +28,7 @@ fn main(rt: HostRuntime) -> anyhow::Result<()> {
     pile_times::<Associative, Lru>(&rt, "associative LRU")
 }
 
-// An empty cache over plain memory.
+// An empty cache over plain memory, as the bench sheet makes it: one line is no crate to share.
 fn cached<'a, M: Mapping, P: Policy<M>>(bytes: &'a mut [u8]) -> Cache<Plain<&'a mut [u8]>, M, P> {
     Cache::over(Plain::new(bytes, 3))
 }
@@ -44,6 +44,7 @@ fn timed<F: FnMut(u32, u32) -> u32>(
 {
     let start = Instant::now(rt)?;
     let mut sum = 0;
+    // A `for`: of a `fold` it is not proved that the step may be called each time.
     for i in 0..steps {
         sum = step(sum, i);
     }
@@ -53,7 +54,7 @@ fn timed<F: FnMut(u32, u32) -> u32>(
 }
 
 // Reads in one block. They do not hang on one another, so the compiler may do several at once; chained ones take each
-// address from the byte before, so that one read waits for the other.
+// address from the sum so far, so that one read waits for the other.
 fn reads<F: FnMut(u16) -> Option<u8>>(
     rt: &HostRuntime,
     chained: bool,

@@ -1,7 +1,7 @@
 -- What a job reckons with.
 use Rattle.std.specs.Prelude.{◌≡◌, ℕ, zero, suc, ◌+◌, ◌*◌, ◌/◌, ◌%◌, List, Result, OnOk, get_or, slice_index_or}
 use Rattle.level.specs.declared.level.Level.{Ghosts}
-use Rattle.level.specs.Level.{Rules, value}
+use Rattle.level.specs.Level.{Rules, topped, value}
 use Rattle.level.specs.Level.Call.{read, write}
 use Rattle.settle.specs.declared.running.Running.{Running}
 use Rattle.indexjob.specs.declared.angle.Angle.{Angle}
@@ -67,6 +67,10 @@ module _ {S : Type 0} (R : Rules S) (s : S) where
   after_round n = in_turn (λ t station. after_move R t station ((station + 1) % 8)) s n
 
 -- ---- what came of a piece
+
+-- The run has counted so many clocks more, stopping at the top.
+abbrev pub Costs : {L : Type 0} → Running L → ℕ → Running L → Type 0
+Costs q cost r = r.account.clocks ≡ topped (q.account.clocks + cost)
 
 -- A piece of a job took the run from q to r. Where no call was refused, the pile is in the state that the piece leads to. The lent memory is the same.
 pub record Does {L : Type 0} (level : Ghosts L) (q : Running L) (piece : level.State → level.State) (r : Running L) {T E : Type 0} (result : Result T E) : Type 0 where

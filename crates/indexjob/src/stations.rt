@@ -1,7 +1,6 @@
 ghost use Rattle.std.specs.Prelude.{◌≡◌, ℕ, ◌+◌, ◌*◌, ◌%◌, ◌<◌, true, IfOk, slice_index_or, sum_by};
-ghost use Rattle.level.specs.Level.{topped};
 ghost use Rattle.indexjob.specs.Angles.{angle_at};
-ghost use Rattle.indexjob.specs.Job.{Does, Reads, WentBy, after_angle, after_angles, after_move, after_round, after_teaching, after_teachings, angle_read, nowhere, origin};
+ghost use Rattle.indexjob.specs.Job.{Costs, Does, Reads, WentBy, after_angle, after_angles, after_move, after_round, after_teaching, after_teachings, angle_read, nowhere, origin};
 
 use crate::angle::Angle;
 use crate::quote::Stretch;
@@ -41,7 +40,7 @@ pub fn record_of(station: u8) -> u16
 // The angle of a station, and what the two reads cost.
 fn read_angle<L: Level>(running: &mut Running<L>, station: u8) -> Result<(Angle, u32), CallRefusal>
     ensures angle { IfOk result (λ told. told.0.tenths ≡ angle_read L.Level.rules (L.Level.state running.old.pile) (16 * station)) }
-    ensures clocks { IfOk result (λ told. running.new.account.clocks ≡ topped (running.old.account.clocks + told.1)) }
+    ensures clocks { IfOk result (λ told. Costs running.old told.1 running.new) }
     ensures does { Does L.Level running.old (λ s. after_angle L.Level.rules s (16 * station)) running.new result }
 {
     let place = record_of(station);
@@ -51,7 +50,8 @@ fn read_angle<L: Level>(running: &mut Running<L>, station: u8) -> Result<(Angle,
     Ok((angle, high.clocks.saturating_add(low.clocks)))
 }
 
-// The angles of all stations, one after the other.
+// The angles of all stations, one after the other. The array is filled in a loop, here and in a round: of `try_from_fn` it
+// is not proved what its steps leave in the run.
 pub fn read_all<L: Level>(running: &mut Running<L>) -> Result<Angles, CallRefusal>
     ensures angles { IfOk result (λ angles. (k : ℕ) → k < 8 → (slice_index_or angles k origin).tenths ≡ angle_read L.Level.rules (after_angles L.Level.rules (L.Level.state running.old.pile) k) (16 * k)) }
     ensures does { Does L.Level running.old (λ s. after_angles L.Level.rules s 8) running.new result }
@@ -89,10 +89,10 @@ pub fn teach_all<L: Level>(running: &mut Running<L>, angles: Angles) -> Result<(
 }
 
 // Both angles are read, and the station that the table leaves is noted in the record of the one that it comes to. The two
-// stations stay two numbers: nothing but a move takes both, and it uses them apart.
+// stations are two numbers: nothing but a move takes both, and it uses them apart.
 fn index<L: Level>(running: &mut Running<L>, from: u8, to: u8) -> Result<Move, CallRefusal>
     ensures reads { IfOk result (λ step. Reads L.Level.rules (L.Level.state running.old.pile) from to step) }
-    ensures clocks { IfOk result (λ step. running.new.account.clocks ≡ topped (running.old.account.clocks + step.clocks)) }
+    ensures clocks { IfOk result (λ step. Costs running.old step.clocks running.new) }
     ensures does { Does L.Level running.old (λ s. after_move L.Level.rules s from to) running.new result }
 {
     let (from_angle, first) = read_angle(running, from)?;
@@ -108,7 +108,7 @@ fn index<L: Level>(running: &mut Running<L>, from: u8, to: u8) -> Result<Move, C
 // Once through all stations and back to the first.
 pub fn index_round<L: Level>(running: &mut Running<L>) -> Result<[Move; STATIONS], CallRefusal>
     ensures reads { IfOk result (λ moves. (k : ℕ) → k < 8 → Reads L.Level.rules (after_round L.Level.rules (L.Level.state running.old.pile) k) k ((k + 1) % 8) (slice_index_or moves k nowhere)) }
-    ensures clocks { IfOk result (λ moves. running.new.account.clocks ≡ topped (running.old.account.clocks + sum_by (λ step. step.clocks) moves)) }
+    ensures clocks { IfOk result (λ moves. Costs running.old (sum_by (λ step. step.clocks) moves) running.new) }
     ensures does { Does L.Level running.old (λ s. after_round L.Level.rules s 8) running.new result }
 {
     let mut moves = [Move::default(); STATIONS];

@@ -7,6 +7,9 @@ ghost use Rattle.indexrun.specs.Listing.{end_line, refusal_line, request_line};
 use std::alloc::{AllocError, Global};
 use words::{Accepted, CallResult, ListRefusal, ListSummary, Operation};
 
+// The lines of the program. They are functions, and no `Display`: a line joins values of several types, and its text is a
+// definition of this program.
+
 // One request: its number, letter and address, and what became of it. A return gives no byte, so a dash stands for it.
 pub fn request_line(
     heap: Global,

@@ -1,6 +1,7 @@
 -- What the judgement of a call says: whether it is accepted, and where its address lies.
 use Rattle.std.proofs.Common.{◌≡◌, ℕ, ◌<◌, Bool, true, false, cond, ltb, refl, arith}
-use Rattle.std.proofs.lemmas.Bool.{both_ways, ltb-true}
+use Rattle.std.proofs.lemmas.Bool.{both_ways}
+use Rattle.std.proofs.lemmas.Bool.Decides.{nat_tests}
 use Rattle.level.specs.Level.{Answer, taken}
 use Rattle.level.specs.Level.Answer.{accepted, refused}
 use Rattle.level.specs.Meaning.{Judged}
@@ -17,17 +18,8 @@ accepted_cause n a (refused m b d) h e = absurd (both_ways false refl e)
 
 -- a read or a return that has no cause is below the size
 pub below_from : (a size : ℕ) → ◌≡◌ {A = ℕ} (cond (ltb a size) 0 1) 0 → a < size
-below_from a size e = ltb-true a size (go (ltb a size) e)
-  where
-    go : (b : Bool) → ◌≡◌ {A = ℕ} (cond b 0 1) 0 → b ≡ true
-    go true e = refl
-    go false e = let z : ◌≡◌ {A = ℕ} 1 0 = e in absurd (omega arith)
+below_from a size e = grind (arith, nat_tests)
 
 -- a write that has no cause is below the size, in a block that is not read-only
 pub free_from : (a size : ℕ) (locked : Bool) → ◌≡◌ {A = ℕ} (cond (ltb a size) (cond locked 2 0) 1) 0 → (a < size) × (locked ≡ false)
-free_from a size locked e = let p = go (ltb a size) locked e in (ltb-true a size p.0, p.1)
-  where
-    go : (b l : Bool) → ◌≡◌ {A = ℕ} (cond b (cond l 2 0) 1) 0 → (b ≡ true) × (l ≡ false)
-    go true true e = let z : ◌≡◌ {A = ℕ} 2 0 = e in absurd (omega arith)
-    go true false e = (refl, refl)
-    go false l e = let z : ◌≡◌ {A = ℕ} 1 0 = e in absurd (omega arith)
+free_from a size locked e = grind (arith, nat_tests)

@@ -1,45 +1,25 @@
 -- What the checks tell.
-use Rattle.std.proofs.Common.{◌≡◌, ℕ, ◌+◌, ◌/◌, ◌%◌, ◌<◌, ◌≤◌, Bool, true, false, cond, ◌&&◌, eqb, ltb, leb, ◌↔◌, length, refl, ap, arith}
-use Rattle.std.proofs.lemmas.Bool.{both_ways, ltb-true, lt-ltb, leb-true, le-leb, eqb-true, eq-eqb, and_parts, and_from}
+use Rattle.std.proofs.Common.{◌≡◌, ℕ, ◌<◌, Bool, true, false, cond, ◌&&◌, ◌↔◌, length, refl, arith}
+use Rattle.std.proofs.lemmas.Bool.{both_ways}
+use Rattle.std.proofs.lemmas.Bool.Decides.{nat_tests}
 use Rattle.level.specs.Level.{Rules}
-use Rattle.level.specs.Level.Call.{return_all}
 use Rattle.level.specs.Memory.{length_ok, figure_ok, first_cause, plain_rules}
 use Rattle.level.specs.Modules.{Modules, modules_length, modules_length_ok, modules_figures_ok, modules_rules}
-use Rattle.level.specs.Guard.{within_size, guard_rules}
-use Rattle.level.proofs.GuardMeaning.{deep_clocks}
-use Rattle.level.specs.Checks.{Tells, Made, GoodLength, GoodLengths, GoodFigures, MemoryChecks, GuardChecks}
+use Rattle.level.specs.Checks.{Tells, Made, GoodLength, GoodLengths, GoodFigures, MemoryChecks}
 
 -- ---- a test and what it says
 
-and_says : {b c : Bool} {A B : Type 0} → (b ≡ true) ↔ A → (c ≡ true) ↔ B → ((b && c) ≡ true) ↔ (A × B)
-and_says {b} {c} p q = (λ e. let h = and_parts b c e in (p.0 h.0, q.0 h.1), λ h. and_from b c (p.1 h.0) (q.1 h.1))
-
-ltb_says : (a b : ℕ) → (ltb a b ≡ true) ↔ (a < b)
-ltb_says a b = (ltb-true a b, lt-ltb a b)
-
-leb_says : (a b : ℕ) → (leb a b ≡ true) ↔ (a ≤ b)
-leb_says a b = (leb-true a b, le-leb a b)
-
-eqb_says : (a b : ℕ) → (eqb a b ≡ true) ↔ (a ≡ b)
-eqb_says a b = (eqb-true a b, eq-eqb a b)
-
 length_says : (n : ℕ) → (length_ok n ≡ true) ↔ GoodLength n
-length_says n =
-    let h = and_says (ltb_says 0 n) (and_says (leb_says n 65536) (eqb_says (n % 4) 0)) in
-    (λ e. let k = h.0 e in (k.0, k.1.0, k.1.1), λ k. h.1 (k.0, (k.1, k.2)))
+length_says n = (λ e. grind (arith, nat_tests), λ k. grind (arith, nat_tests))
 
 figure_says : (t : ℕ) → (figure_ok t ≡ true) ↔ GoodFigures t t
-figure_says t = let h = and_says (leb_says 1 t) (leb_says t 15) in (λ e. let k = h.0 e in (k.0, omega arith, k.1), λ k. h.1 (k.0, k.2))
+figure_says t = (λ e. grind (arith, nat_tests), λ k. grind (arith, nat_tests))
 
 lengths_say : (s : Modules) → (modules_length_ok s ≡ true) ↔ GoodLengths (length s.even) (length s.odd)
-lengths_say s =
-    let h = and_says (eqb_says (length s.even) (length s.odd)) (and_says (eqb_says (length s.even % 2) 0) (length_says (modules_length s))) in
-    (λ e. let k = h.0 e in (k.0, k.1.0, k.1.1), λ k. h.1 (k.0, (k.1, k.2)))
+lengths_say s = (λ e. grind (arith, nat_tests), λ k. grind (arith, nat_tests))
 
 figures_say : (s : Modules) → (modules_figures_ok s ≡ true) ↔ GoodFigures s.short s.long
-figures_say s =
-    let h = and_says (figure_says s.short) (and_says (figure_says s.long) (leb_says s.short s.long)) in
-    (λ e. let k = h.0 e in (k.0.0, k.1.1, k.1.0.2), λ k. h.1 ((k.0, omega arith, omega arith), ((omega arith, omega arith, k.2), k.1)))
+figures_say s = (λ e. grind (arith, nat_tests), λ k. grind (arith, nat_tests))
 
 -- ---- a check of two tests
 
@@ -80,22 +60,10 @@ module _ {S : Type 0} (R : Rules S) (s : S) (size worst else_worst : ℕ) where
       (λ d e. record { whole = λ z. (d, e); degenerate = λ z. absurd (z refl) })
       (λ check low d e. record { whole = λ z. absurd (omega arith); degenerate = λ z. (d, e) }) d e
 
-same_either : (b : Bool) (n : ℕ) → n ≡ cond b n n
-same_either true n = refl
-same_either false n = refl
-
 pub memory_checks : MemoryChecks
 memory_checks = record {
   plain = λ p. tells (length_ok (length p.bytes)) (figure_ok p.figure) 3 4 (omega arith) (omega arith) (length_says (length p.bytes)) (figure_says p.figure);
   plain_made = λ p. made plain_rules p (length p.bytes) p.figure 0 (length_ok (length p.bytes)) (figure_ok p.figure) 3 4 (omega arith) (omega arith) refl refl;
   modules = λ s. tells (modules_length_ok s) (modules_figures_ok s) 3 4 (omega arith) (omega arith) (lengths_say s) (figures_say s);
   modules_made = λ s. made modules_rules s (modules_length s) s.long 0 (modules_length_ok s) (modules_figures_ok s) 3 4 (omega arith) (omega arith) refl refl;
-}
-
-pub guard_checks : {S : Type 0} (R : Rules S) → GuardChecks R
-guard_checks R = record {
-  guard = λ first count size. tells (ltb 0 count) (within_size first count size) 5 6 (omega arith) (omega arith) (ltb_says 0 count) (leb_says (first + count) (size / 4));
-  guard_made = λ s g. made (guard_rules R) s (R.size s.below) (R.worst s.below) (R.worst s.below) (ltb 0 s.count) (within_size s.first s.count (R.size s.below)) 5 6 (omega arith) (omega arith) (ap (λ b. cond b (R.size s.below) 0) g.0) (same_either (ltb 0 s.count && within_size s.first s.count (R.size s.below)) (R.worst s.below));
-  returns_pass = λ s. refl;
-  returns_cost = λ s. deep_clocks (R.step s.below return_all).answer;
 }

@@ -17,7 +17,7 @@ pub enum Access {
 
 // What an accepted call gives: the byte read or written, or 0 for a return, and its clocks, which stop
 // at the top of their 32 bits.
-#[derive(Clone, Copy, PartialEq, Eq, Debug)]
+#[derive(Clone, Copy, Default, PartialEq, Eq, Debug)]
 pub struct Done {
     pub value: u8,
     pub clocks: u32,

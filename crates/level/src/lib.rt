@@ -4,6 +4,7 @@
 
 mod laws;
 mod level;
+// Public, so that crates above can pass deeper by its name.
 pub mod refusal;
 
 pub use laws::{

@@ -19,8 +19,8 @@ pub struct Account {
 }
 
 impl Account {
-    // Goes through a list and counts. A `filter_map` in front of the loop was tried: the loop's step does not prove then,
-    // since what the chain has skipped is only told as a run of the reader.
+    // Goes through a list and counts. With a `filter_map` in front the loop's step is not proved, since what the chain
+    // skips is only told as a run of the reader.
     pub fn of(heap: Global, list: &[u8]) -> Result<Self, AllocError>
         ensures reads { IfOk result (λ a. a.reads ≡ count reading (operations (words list.now))) }
         ensures writes { IfOk result (λ a. a.writes ≡ count writing (operations (words list.now))) }

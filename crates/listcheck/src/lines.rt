@@ -7,6 +7,9 @@ use crate::account::Account;
 use std::alloc::{AllocError, Global};
 use words::{ListRefusal, ListSummary, Operation, Request};
 
+// The lines of the program. They are functions, and no `Display`: a line joins values of several types, and its text is a
+// definition of this program.
+
 // One request: its number, letter, address, the byte of a write, and its wait.
 pub fn request_line(heap: Global, place: usize, request: Request) -> Result<String, AllocError>
     ensures { IfOk result (λ s. string_bytes s ≡ request_line place request) }

@@ -28,7 +28,7 @@ fn main(rt: HostRuntime) -> anyhow::Result<()> {
     }
 }
 
-// A line for each request, and the totals.
+// A line for each request, and the totals. In a list that is taken every word is a request.
 fn print_account(rt: &HostRuntime, list: &[u8], summary: ListSummary) -> anyhow::Result<()> {
     let heap = rt.alloc();
     for word in Reader::new(list) {

@@ -6,7 +6,8 @@ ghost use Rattle.lists.specs.Results.{answer_told, call, word_of};
 use level::{Done, Level};
 use words::{Accepted, CallResult, Operation};
 
-// Puts a request to a level, and tells what became of it.
+// Puts a request to a level, and tells what became of it. The state and the lender are clauses of their own here and above:
+// proofs cite them by these names, and an edit that breaks one is refused by its name.
 pub fn serve<L: Level>(pile: &mut L, operation: Operation) -> CallResult
     ensures answer { answer_told result ≡ capped (L.Level.rules.step (L.Level.state pile.old) (call operation)).answer }
     ensures word { result_word result ≡ word_of operation (capped (L.Level.rules.step (L.Level.state pile.old) (call operation)).answer) }

@@ -1,8 +1,7 @@
 ghost use Rattle.std.specs.Borrow.{GName};
-ghost use Rattle.std.specs.Prelude.{◌≡◌, ℕ, List, length, slice_index, slice_set};
+ghost use Rattle.std.specs.Prelude.{◌≡◌, ℕ, List, [], ◌∷◌, length, slice_index, slice_set};
 
-pub mod held;
-pub mod lent;
+use std::convert::AsSlice;
 
 // Bytes that a memory stands on, held for reading.
 pub trait Bytes {
@@ -27,10 +26,27 @@ pub trait BytesMut: Bytes {
         ensures lent { lent self.new ≡ lent self.old };
 }
 
-// The byte of a slice at a place, and 0 past the end.
-// Slices held and slices lent have an impl each: one impl over `Deref` would have no content to name.
-fn byte_at(bytes: &[u8], place: usize) -> u8
-    ensures { result ≡ slice_index bytes.now place }
-{
-    bytes.get(place).copied().unwrap_or(0)
+// What lends its bytes as a slice, such as a slice that the caller lets be read, or one that the caller lends.
+impl<B: AsSlice<u8>> Bytes for B {
+    ghost content = { B.AsSlice.items };
+
+    fn count(&self) -> usize {
+        self.as_slice().len()
+    }
+
+    fn get(&self, place: usize) -> u8 {
+        self.as_slice().get(place).copied().unwrap_or(0)
+    }
+}
+
+// Bytes that the caller lends.
+impl BytesMut for &mut [u8] {
+    ghost lent = { λ s. s.ghost_name ∷ [] };
+
+    // By index, since the check does not follow what `get_mut` lends out of a slice that is itself lent.
+    fn put(&mut self, place: usize, byte: u8) {
+        if place < self.len() {
+            self[place] = byte;
+        }
+    }
 }

@@ -15,7 +15,8 @@ pub struct Guard<L> {
     below: L,
     first: u16,
     count: u16,
-    // The check of the making found nothing. It is no option of the range, which the rule has in either case.
+    // The check of the making found nothing. It is no `Option` of a range, since the rule has first and count in either
+    // case.
     sound: bool,
 }
 

@@ -1,4 +1,5 @@
-ghost use Rattle.std.specs.Prelude.{◌≡◌, ℕ, ◌+◌, ◌%◌, ◌&&◌, List, ◌++◌, length, if◌then◌else◌, ◌==◌};
+ghost use Rattle.std.specs.Prelude.{◌≡◌, ℕ, ◌+◌, ◌%◌, ◌&&◌, List, ◌++◌, length, if◌then◌else◌, ◌==◌, Ok, Err};
+ghost use Rattle.words.specs.declared.refusal.MemoryRefusal.TheVariants.{Length};
 ghost use Rattle.level.specs.Memory.{length_ok};
 ghost use Rattle.level.specs.Modules.{Modules as Halves, modules_check, modules_rules, switched};
 ghost use Rattle.memory.specs.Answers.{memory_number};
@@ -7,7 +8,7 @@ ghost use Rattle.memory.specs.TwoModules.{module_number, last_of, modules_made, 
 ghost use Rattle.level.proofs.ModulesMeaning.{modules_meaning};
 
 use crate::bytes::BytesMut;
-use crate::check::{RETURNED, figure_fits, judge, length_fits, reach};
+use crate::check::{RETURNED, check_figure, check_length, reach};
 use level::{Access, Done, Level};
 use words::{CallRefusal, MemoryRefusal};
 
@@ -19,7 +20,8 @@ enum Module {
 }
 
 // A memory of two modules that the caller lends. Address a is in module a mod 2 at place a div 2.
-// An access costs the short figure if the last one went to the other module, and else the long one.
+// An access costs the short figure if the last one went to the other module, and else the long one. The figures are two
+// fields and two parameters: a check and a making take them, and nothing else.
 #[derive(Drop)]
 pub struct Modules<B> {
     even: B,
@@ -31,7 +33,7 @@ pub struct Modules<B> {
 }
 
 impl Module {
-    // It is no `From`: an address lies in a module, and is none.
+    // Where an address lies. A `From` would say that the address is a module.
     fn of(address: u16) -> Module
         ensures { module_number result ≡ address % 2 }
     {
@@ -43,12 +45,16 @@ impl Module {
     }
 }
 
-// Whether two modules may have these lengths: equal and even, and together those of a memory. Equal lengths whose sum is
-// whole blocks are even.
-fn lengths_fit(even: usize, odd: usize) -> bool
-    ensures { result ≡ (even == odd && (even % 2 == 0 && length_ok (even + odd))) }
+// Two modules have equal and even lengths, and together that of a memory. Any others are refused. Equal lengths whose sum
+// is whole blocks are even.
+fn check_lengths(even: usize, odd: usize) -> Result<(), MemoryRefusal>
+    ensures { result ≡ (if even == odd && (even % 2 == 0 && length_ok (even + odd)) then Ok tt else Err Length) }
 {
-    even == odd && length_fits(even.saturating_add(odd))
+    if even == odd {
+        check_length(even.saturating_add(odd))
+    } else {
+        Err(MemoryRefusal::Length)
+    }
 }
 
 impl<B: BytesMut> Modules<B> {
@@ -57,8 +63,14 @@ impl<B: BytesMut> Modules<B> {
     pub fn check(even: usize, odd: usize, short: u8, long: u8) -> Result<(), MemoryRefusal>
         ensures { (e o : List ℕ) → length e ≡ even → length o ≡ odd → memory_number result ≡ modules_check (modules_made e o short long) }
     {
-        let figures_fit = figure_fits(short) && figure_fits(long) && short <= long;
-        judge(lengths_fit(even, odd), figures_fit)
+        check_lengths(even, odd)?;
+        check_figure(short)?;
+        check_figure(long)?;
+        if short <= long {
+            Ok(())
+        } else {
+            Err(MemoryRefusal::Figure)
+        }
     }
 
     pub fn new(even: B, odd: B, short: u8, long: u8) -> Modules<B>
@@ -82,17 +94,23 @@ impl<B: BytesMut> Modules<B> {
         (self.even, self.odd)
     }
 
+    // Both lengths together, or 0 where the check refuses the making.
+    fn size(&self) -> usize
+        ensures { result ≡ modules_rules.size (modules_state B.Bytes.content self.now) }
+    {
+        let even = self.even.count();
+        let odd = self.odd.count();
+        Self::check(even, odd, self.short, self.long).map_or(0, |()| even.saturating_add(odd))
+    }
+
     // The refusal of an address that there is not.
     fn reach(&self, address: u16) -> Result<(), CallRefusal>
         ensures { result ≡ reached (modules_rules.size (modules_state B.Bytes.content self.now)) address }
     {
-        let even = self.even.count();
-        let odd = self.odd.count();
-        let check = Self::check(even, odd, self.short, self.long);
-        reach(check, even.saturating_add(odd), address)
+        reach(self.size(), address)
     }
 
-    // The clocks of an access of a module, which is the last one from then on.
+    // The clocks of an access. The module that it calls is the last one from then on.
     fn turn_to(&mut self, called: Module) -> u32
         ensures clocks { result ≡ (if switched (last_of self.old.last) (module_number called) then self.old.short else self.old.long) }
         ensures next { self.new ≡ record self.old { last = Some called } }

@@ -9,7 +9,7 @@ ghost use Rattle.memory.specs.Reach.{reached};
 ghost use Rattle.level.proofs.PlainMeaning.{plain_meaning};
 
 use crate::bytes::{Bytes, BytesMut};
-use crate::check::{RETURNED, figure_fits, judge, length_fits, reach};
+use crate::check::{RETURNED, check_figure, check_length, reach};
 use level::{Access, Done, Level};
 use words::{CallRefusal, MemoryRefusal};
 
@@ -21,21 +21,29 @@ pub struct Plain<B> {
     pub(crate) figure: u8,
 }
 
-// What needs no byte written.
+// What asks only for bytes that can be read.
 impl<B: Bytes> Plain<B> {
     // Whether a memory can be made of so many bytes and this figure. One that is made of anything else has no addresses.
     pub fn check(count: usize, figure: u8) -> Result<(), MemoryRefusal>
         ensures { (bytes : List ℕ) → length bytes ≡ count → memory_number result ≡ plain_check (plain_made bytes figure) }
     {
-        judge(length_fits(count), figure_fits(figure))
+        check_length(count)?;
+        check_figure(figure)
+    }
+
+    // The length, or 0 where the check refuses the making.
+    fn size(&self) -> usize
+        ensures { result ≡ plain_rules.size (plain_state B.Bytes.content self.now) }
+    {
+        let count = self.bytes.count();
+        Self::check(count, self.figure).map_or(0, |()| count)
     }
 
     // The refusal of an address that there is not.
     pub(crate) fn reach(&self, address: u16) -> Result<(), CallRefusal>
         ensures { result ≡ reached (plain_rules.size (plain_state B.Bytes.content self.now)) address }
     {
-        let count = self.bytes.count();
-        reach(Self::check(count, self.figure), count, address)
+        reach(self.size(), address)
     }
 
     // What a read of the address answers.

@@ -1,6 +1,7 @@
 -- A cache over a level that has a meaning has one.
 use Rattle.std.proofs.Common.{◌≡◌, ℕ, zero, suc, ◌+◌, ◌-◌, ◌*◌, ◌<◌, ◌≤◌, Bool, true, false, length, get_or, replicate, sym, refl, ap, ◌∙◌, subst, arith}
 use Rattle.std.proofs.lemmas.Bool.{both_ways}
+use Rattle.std.proofs.lemmas.List.{get_or-replicate}
 use Rattle.pile.specs.declared.entry.Entry.{Entry}
 use Rattle.level.specs.Level.{Call, Rules, address, clocks, value, taken, block}
 use Rattle.level.specs.declared.level.Access.TheVariants.{Read, Write}
@@ -22,11 +23,6 @@ use Rattle.pile.proofs.Queries.{query_read, query_write, query_return, unless_ca
 use Rattle.pile.proofs.Keeps.{held_read, held_write, held_return, held_return_all}
 use Rattle.pile.proofs.Below.{blocks}
 
-all_empty : (n i : ℕ) → i < n → get_or (replicate n empty) i blank ≡ empty
-all_empty zero i l = absurd (omega arith)
-all_empty (suc n) zero l = refl
-all_empty (suc n) (suc i) l = all_empty n i (omega arith)
-
 -- at any place, past the end too
 all_off : (f : Entry → Bool) → f empty ≡ false → f blank ≡ false → (n i : ℕ) → f (get_or (replicate n empty) i blank) ≡ false
 all_off f p q zero i = q
@@ -36,11 +32,11 @@ all_off f p q (suc n) (suc i) = all_off f p q n i
 sound_empties : (m : Shape) (n : ℕ) (locked : ℕ → Bool) → Sound m n locked empties
 sound_empties m n locked = record {
   eight = refl;
-  four = λ i l. ap (λ e. length e.bytes) (all_empty 8 i l);
+  four = λ i l. ap (λ e. length e.bytes) (get_or-replicate 8 i empty blank l);
   placed = λ row way rl wl v. absurd (not_valid (row * m.ways + way) v);
   unique = λ row v w rl vl wl x y z. absurd (not_valid (row * m.ways + v) x);
   dirty = λ row way rl wl d. absurd (both_ways (slot m empties row way).dirty (all_off (λ e. e.dirty) refl refl 8 (row * m.ways + way)) d);
-  vacant = λ i l v. all_empty 8 i l;
+  vacant = λ i l v. get_or-replicate 8 i empty blank l;
 }
   where
     not_valid : (i : ℕ) → (get_or empties i blank).valid ≡ true → ⊥

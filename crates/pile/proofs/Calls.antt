@@ -12,8 +12,9 @@ use Rattle.ways.specs.Ways.Reached.{hits, loads, empties}
 use Rattle.pile.specs.Table.{blank, empty, clean}
 use Rattle.pile.specs.Cache.{Cached, Ready, Evicted, Fetched, cache_rules, fetch, flush, rotation, hit_entry, load_entry, ready_entry, evict, evict_block, evict_all}
 use Rattle.ways.specs.Orders.{all_once, last_below}
+use Rattle.ways.proofs.Places.{ways_some, set_below}
 use Rattle.pile.proofs.Sound.{slot}
-use Rattle.pile.proofs.Tables.{Holds, Looked, looked, spot, some_ways, row_of, way_of, changed_here}
+use Rattle.pile.proofs.Tables.{Holds, Looked, looked, spot, way_of, changed_here}
 use Rattle.pile.proofs.Changes.{Same, out_cases, held_once}
 use Rattle.pile.proofs.Steps.{Good, good_out, good_load, load_held, went_cost, got_cost}
 use Rattle.pile.proofs.Below.{few, block_low}
@@ -68,7 +69,7 @@ module _ {S Q : Type 0} {R : Rules S} {m : Shape} {P : Orders Q} {s : Cached S Q
               place = (m.split (block a)).0 * m.ways + way
 
               way_low : way < m.ways
-              way_low = last_below (P.order u.order (m.split (block a)).0) (all_once ordered st (m.split (block a)).0 row_low) (some_ways mapped)
+              way_low = last_below (P.order u.order (m.split (block a)).0) (all_once ordered st (m.split (block a)).0 row_low) (ways_some m.sets m.ways mapped.product)
 
               got : Fetched S
               got = fetch R (flush R m P u (m.split (block a)).0 way).below (4 * block a) (rotation (a % 4)) (0 ∷ 0 ∷ 0 ∷ 0 ∷ [])
@@ -128,7 +129,7 @@ module _ {S Q : Type 0} {R : Rules S} {m : Shape} {P : Orders Q} {s : Cached S Q
       place = div-add-mod' i m.ways
 
       row_low : i / m.ways < m.sets
-      row_low = row_of mapped i (omega arith)
+      row_low = set_below m.sets m.ways mapped.product i (omega arith)
 
       way_low : i % m.ways < m.ways
       way_low = way_of mapped i

@@ -9,8 +9,9 @@ use Rattle.ways.specs.Members.{In, cut}
 use Rattle.pile.proofs.Pigeon.{in_left, pigeons, in_different, in_in_set}
 use Rattle.pile.proofs.Nearer.{moved, ends, last_behind}
 use Rattle.ways.specs.Orders.{EachOnce, all_once, only, in_once, last_below}
+use Rattle.ways.proofs.Places.{ways_some}
 use Rattle.pile.proofs.Sound.{Sound}
-use Rattle.pile.proofs.Tables.{Holds, some_ways, changed_here, changed_cases}
+use Rattle.pile.proofs.Tables.{Holds, changed_here, changed_cases}
 
 -- one load more
 abbrev pub push : ℕ → (ℕ → ℕ) → ℕ → ℕ
@@ -170,7 +171,7 @@ module _ {Q : Type 0} {m : Shape} {P : Orders Q} (ordered : Ordered P m.sets m.w
       table' = set table (k * m.ways + w) e
 
       last_low : w < m.ways
-      last_low = last_below now once (some_ways mapped)
+      last_low = last_below now once (ways_some m.sets m.ways mapped.product)
 
       -- the last way stands behind the front
       behind : (init : List ℕ) × (now ≡ (F.front ++ init) ++ (w ∷ []))

@@ -12,8 +12,9 @@ use Rattle.ways.specs.Ways.{Shape, Orders, Mapped, Ordered}
 use Rattle.pile.specs.Table.{blank}
 use Rattle.pile.specs.Cache.{Cached, cache_rules, with_below, ready_entry, after_read, after_write, after_return, evict_block, evict_all}
 use Rattle.level.proofs.Answers.{below_from, free_from}
+use Rattle.ways.proofs.Places.{slot_below}
 use Rattle.pile.proofs.Sound.{slot}
-use Rattle.pile.proofs.Tables.{Holds, place_below, stained_not}
+use Rattle.pile.proofs.Tables.{Holds, stained_not}
 use Rattle.pile.proofs.Coupled.{Hist, coupled_call, coupled_ended}
 use Rattle.pile.proofs.Steps.{good_write}
 use Rattle.pile.proofs.Calls.{Gone, brought, returned, all_out}
@@ -127,7 +128,7 @@ module _ {S Q : Type 0} {R : Rules S} {m : Shape} {P : Orders Q} {s : Cached S Q
       (stay (return_block a)) refl
 
   none_valid : (u : Cached S Q) → ((j : ℕ) → j < 8 → (get_or u.table j blank).valid ≡ false) → (b w : ℕ) → b < blocks R s.below → Holds m u.table b w → ⊥
-  none_valid u all b w l n = both_ways (slot m u.table (m.split b).0 w).valid (all ((m.split b).0 * m.ways + w) (place_below mapped (m.split b).0 w (mapped.set_below b (omega (arith, few h fresh))) n.0)) n.1.0
+  none_valid u all b w l n = both_ways (slot m u.table (m.split b).0 w).valid (all ((m.split b).0 * m.ways + w) (slot_below m.sets m.ways mapped.product (m.split b).0 w (mapped.set_below b (omega (arith, few h fresh))) n.0)) n.1.0
 
   pub held_return_all : Gone R m P s (called r return_all) σ ((cache_rules R m P).step t return_all).next
   held_return_all =

@@ -11,8 +11,9 @@ use Rattle.level.specs.Meaning.{Meaning}
 use Rattle.ways.specs.Ways.{Shape, Orders, Mapped}
 use Rattle.pile.specs.Table.{empty, clean, with_byte}
 use Rattle.pile.specs.Cache.{Cached, WrittenBack, Fetched, cache_rules, write_back, fetch_block, rotation}
+use Rattle.ways.proofs.Places.{slot_below}
 use Rattle.pile.proofs.Sound.{slot, Sound}
-use Rattle.pile.proofs.Tables.{Holds, holder, place_below, sight, sight_not, sight_held, stained, stained_not, stained_held, split_apart, sound_changed}
+use Rattle.pile.proofs.Tables.{Holds, holder, sight, sight_not, sight_held, stained, stained_not, stained_held, split_apart, sound_changed}
 use Rattle.pile.proofs.Changes.{Same, held_cases, held_once, same_stained, out_cases, put_here, put_there, pair_same}
 use Rattle.pile.proofs.Coupled.{Coupled, Sendable, coupled_as, coupled_send, coupled_fetch, coupled_put}
 use Rattle.pile.proofs.Below.{blocks, few, block_low, fetched, rotation_small, rotation_all, write_back_cost, fetch_cost}
@@ -70,7 +71,7 @@ module _ {S Q : Type 0} {R : Rules S} {m : Shape} {P : Orders Q} {s : Cached S Q
 
           each : (j : ℕ) → j < length (slot m table row way).bytes → Sendable R s.below σ (get_or (slot m table row way).bytes j 0) (4 * b + j)
           each j l =
-              let len = g.sound.four (row * m.ways + way) (place_below mapped row way row_low way_low) in
+              let len = g.sound.four (row * m.ways + way) (slot_below m.sets m.ways mapped.product row way row_low way_low) in
               let at : block (4 * b + j) ≡ b = omega arith in
               let rest : (4 * b + j) % 4 ≡ j = omega arith in
               let room : 4 * b + j < R.size s.below = omega (arith, low) in
@@ -81,7 +82,7 @@ module _ {S Q : Type 0} {R : Rules S} {m : Shape} {P : Orders Q} {s : Cached S Q
           more : (a : ℕ) → a < R.size s.below → (stained m table (block a) ≡ false) ⊎ (Holds m table (block a) way × ((m.split (block a)).0 ≡ row)) → (stained m table (block a) ≡ false) ⊎ ((4 * b ≤ a) × (a < 4 * b + length (slot m table row way).bytes))
           more a l (inl k) = inl k
           more a l (inr (k, q)) =
-              let len = g.sound.four (row * m.ways + way) (place_below mapped row way row_low way_low) in
+              let len = g.sound.four (row * m.ways + way) (slot_below m.sets m.ways mapped.product row way row_low way_low) in
               let eq : m.split (block a) ≡ m.split b = pair_same (m.split (block a)) (row, (slot m table row way).tag) q (sym k.1.1 ∙ ap (λ n. (slot m table n way).tag) q) ∙ sym split_b in
               let at : block a ≡ b = split_apart mapped (block a) b (omega (arith, few h fresh, block_low h fresh a l)) (omega (arith, few h fresh, low)) eq in
               inr (omega arith)
@@ -93,7 +94,7 @@ module _ {S Q : Type 0} {R : Rules S} {m : Shape} {P : Orders Q} {s : Cached S Q
       went_cost = go (slot m table row way).dirty
         where
           go : (b : Bool) → (cond b (write_back R x (4 * m.join (row, (slot m table row way).tag)) (slot m table row way).bytes) (record { below = x; spent = 0 })).spent ≤ 4 * (1 + R.worst s.below)
-          go true = subst (λ n. (write_back R x (4 * m.join (row, (slot m table row way).tag)) (slot m table row way).bytes).spent ≤ n * (1 + R.worst s.below)) (g.sound.four (row * m.ways + way) (place_below mapped row way row_low way_low)) (write_back_cost h fresh (slot m table row way).bytes g.coupled.under (4 * m.join (row, (slot m table row way).tag)))
+          go true = subst (λ n. (write_back R x (4 * m.join (row, (slot m table row way).tag)) (slot m table row way).bytes).spent ≤ n * (1 + R.worst s.below)) (g.sound.four (row * m.ways + way) (slot_below m.sets m.ways mapped.product row way row_low way_low)) (write_back_cost h fresh (slot m table row way).bytes g.coupled.under (4 * m.join (row, (slot m table row way).tag)))
           go false = omega arith
 
       -- and the entry is emptied
@@ -217,7 +218,7 @@ module _ {S Q : Type 0} {R : Rules S} {m : Shape} {P : Orders Q} {s : Cached S Q
 
       sound_write : Sound m (blocks R s.below) (R.locked s.below) soiled
       sound_write = sound_changed mapped (few h fresh) g.sound (m.split (block a)).0 way set_low held.0 (with_byte (slot m table (m.split (block a)).0 way) (a % 4) v)
-          (length-set (slot m table (m.split (block a)).0 way).bytes (a % 4) v ∙ g.sound.four ((m.split (block a)).0 * m.ways + way) (place_below mapped (m.split (block a)).0 way set_low held.0))
+          (length-set (slot m table (m.split (block a)).0 way).bytes (a % 4) v ∙ g.sound.four ((m.split (block a)).0 * m.ways + way) (slot_below m.sets m.ways mapped.product (m.split (block a)).0 way set_low held.0))
           (λ e. (block a, block_low h fresh a low, its_tag))
           (λ e w l ne valid tag. ne (g.sound.unique (m.split (block a)).0 w way set_low l held.0 valid held.1.0 tag))
           (λ e. (held.1.0, ap (R.locked s.below) (ap m.join (sym its_tag) ∙ mapped.back (block a) (omega (arith, few h fresh, block_low h fresh a low))) ∙ unlocked))
@@ -241,7 +242,7 @@ module _ {S Q : Type 0} {R : Rules S} {m : Shape} {P : Orders Q} {s : Cached S Q
       fewer_clean b l k (inr ne) = (sym (put_stained_there (m.split (block a)).0 way set_low held.0 (with_byte (slot m table (m.split (block a)).0 way) (a % 4) v) (block a) (block_low h fresh a low) held.1.0 its_tag no_other sound_write (block b) (block_low h fresh b l) ne) ∙ k, λ e. ne (ap block e))
 
       own_bytes : (b : ℕ) → b < R.size s.below → block b ≡ block a → (b ≡ a) ⊎ (b ≡ a → ⊥) → get_or (set (slot m table (m.split (block a)).0 way).bytes (a % 4) v) (b % 4) 0 ≡ seen_after b
-      own_bytes b l e (inl q) = ap (λ n. get_or (set (slot m table (m.split (block a)).0 way).bytes (a % 4) v) (n % 4) 0) q ∙ get_or-set_same (slot m table (m.split (block a)).0 way).bytes (a % 4) v 0 (omega (arith, g.sound.four ((m.split (block a)).0 * m.ways + way) (place_below mapped (m.split (block a)).0 way set_low held.0))) ∙ sym (after_same b q)
+      own_bytes b l e (inl q) = ap (λ n. get_or (set (slot m table (m.split (block a)).0 way).bytes (a % 4) v) (n % 4) 0) q ∙ get_or-set_same (slot m table (m.split (block a)).0 way).bytes (a % 4) v 0 (omega (arith, g.sound.four ((m.split (block a)).0 * m.ways + way) (slot_below m.sets m.ways mapped.product (m.split (block a)).0 way set_low held.0))) ∙ sym (after_same b q)
       own_bytes b l e (inr ne) =
           let k = g.holds b way l (subst (λ n. Holds m table n way) (sym e) held) in
           let o = after_other b ne in

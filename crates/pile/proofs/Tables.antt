@@ -2,11 +2,12 @@
 use Rattle.std.proofs.Common.{◌≡◌, ℕ, zero, suc, ◌+◌, ◌*◌, ◌/◌, ◌%◌, ◌<◌, ◌≤◌, Bool, true, false, cond, ◌&&◌, eqb, ◌⊎◌, List, length, get_or, set, Some, None, Option, sym, refl, ap, ◌∙◌, subst, inl, inr, arith}
 use Rattle.std.proofs.lemmas.Bool.{eqb-true, eq-eqb, cases_eq, and_parts, and_from, both_ways}
 use Rattle.std.proofs.lemmas.List.{length-set, get_or-set_same, get_or-set_other}
-use Rattle.std.proofs.lemmas.Nat.{div-mul-add, mod-mul-add, mul-add-lt, div_below, mod_below}
+use Rattle.std.proofs.lemmas.Nat.{div-mul-add, mod-mul-add, mod_below}
 use Rattle.pile.specs.declared.entry.Entry.{Entry}
 use Rattle.level.specs.Level.{block}
 use Rattle.ways.specs.Ways.{Shape, Mapped}
 use Rattle.pile.specs.Table.{blank, empty, find}
+use Rattle.ways.proofs.Places.{ways_some, slot_below}
 use Rattle.pile.proofs.Sound.{slot, Sound}
 
 -- the entry at a place is valid and has the tag
@@ -83,22 +84,9 @@ module _ (m : Shape) where
   stained_not table b h = ap (stained_in table b) (spot_not table b h)
 
 module _ {m : Shape} (mapped : Mapped m) where
-  pub some_ways : 0 < m.ways
-  some_ways = go m.ways refl
-    where
-      go : (n : ℕ) → m.ways ≡ n → 0 < m.ways
-      go zero e = absurd (omega (arith, mapped.product, rw e at mapped.product))
-      go (suc n) e = omega arith
-
-  pub place_below : (row way : ℕ) → row < m.sets → way < m.ways → row * m.ways + way < 8
-  place_below row way h k = omega (arith, mul-add-lt row m.ways way m.sets h k, mapped.product)
-
-  -- the set and the way of a place
-  pub row_of : (i : ℕ) → i < 8 → i / m.ways < m.sets
-  row_of i l = div_below i m.ways m.sets some_ways (omega (arith, mapped.product))
-
+  -- the way of a place
   pub way_of : (i : ℕ) → i % m.ways < m.ways
-  way_of i = mod_below i m.ways some_ways
+  way_of i = mod_below i m.ways (ways_some m.sets m.ways mapped.product)
 
   pub row_same : (row row' way way' : ℕ) → way < m.ways → way' < m.ways → row * m.ways + way ≡ row' * m.ways + way' → row ≡ row'
   row_same row row' way way' h k e = sym (div-mul-add row m.ways way h) ∙ ap (λ n. n / m.ways) e ∙ div-mul-add row' m.ways way' k
@@ -132,7 +120,7 @@ module _ {m : Shape} (mapped : Mapped m) where
       changed = set table (row * m.ways + way) e
 
       pub changed_here : slot m changed row way ≡ e
-      changed_here = get_or-set_same table (row * m.ways + way) e blank (omega (arith, sound.eight, place_below row way row_low way_low))
+      changed_here = get_or-set_same table (row * m.ways + way) e blank (omega (arith, sound.eight, slot_below m.sets m.ways mapped.product row way row_low way_low))
 
       abbrev Which : ℕ → ℕ → Type 0
       Which r w = ((r ≡ row) × (w ≡ way) × (slot m changed r w ≡ e)) ⊎ ((slot m changed r w ≡ slot m table r w) × (r ≡ row → w ≡ way → ⊥))

@@ -16,8 +16,9 @@ use Rattle.pile.specs.Promise.{WholePromise}
 use Rattle.level.proofs.Histories.{run_along}
 use Rattle.level.proofs.Answers.{below_from}
 use Rattle.level.proofs.Promises.{promise}
+use Rattle.ways.proofs.Places.{set_below}
 use Rattle.pile.proofs.Sound.{slot, Sound}
-use Rattle.pile.proofs.Tables.{Holds, row_of, way_of}
+use Rattle.pile.proofs.Tables.{Holds, way_of}
 use Rattle.pile.proofs.Calls.{Gone, returned, all_out}
 use Rattle.pile.proofs.Queries.{query_return, unless_cases}
 use Rattle.pile.proofs.CacheMeaning.{run_held, cache_meaning}
@@ -36,17 +37,17 @@ module _ {m : Shape} (mapped : Mapped m) {blocks : ℕ} {locked : ℕ → Bool} 
       let tag : (get_or table i blank).tag ≡ (get_or table j blank).tag = ap (λ x. x.1) (sym p.1 ∙ q.1) in
       let there : slot m table (i / m.ways) (j % m.ways) ≡ get_or table j blank = ap (λ r. slot m table r (j % m.ways)) row ∙ at j in
       let way : i % m.ways ≡ j % m.ways =
-      sound.unique (i / m.ways) (i % m.ways) (j % m.ways) (row_of mapped i l) (way_of mapped i) (way_of mapped j) (ap (λ e. e.valid) (at i) ∙ p.0) (ap (λ e. e.valid) there ∙ q.0) (ap (λ e. e.tag) (at i) ∙ tag ∙ sym (ap (λ e. e.tag) there)) in
+      sound.unique (i / m.ways) (i % m.ways) (j % m.ways) (set_below m.sets m.ways mapped.product i l) (way_of mapped i) (way_of mapped j) (ap (λ e. e.valid) (at i) ∙ p.0) (ap (λ e. e.valid) there ∙ q.0) (ap (λ e. e.tag) (at i) ∙ tag ∙ sym (ap (λ e. e.tag) there)) in
       sym (div-add-mod' i m.ways) ∙ ap (λ r. r * m.ways + i % m.ways) row ∙ ap (λ w. j / m.ways * m.ways + w) way ∙ div-add-mod' j m.ways
 
   tidy : Tidy m blocks locked table
   tidy = record {
     eight = sound.eight;
     four = sound.four;
-    placed = λ i l v. let k = sound.placed (i / m.ways) (i % m.ways) (row_of mapped i l) (way_of mapped i) (ap (λ e. e.valid) (at i) ∙ v) in (k.0, k.1, (v, k.2 ∙ ap (λ e. (i / m.ways, e.tag)) (at i)));
+    placed = λ i l v. let k = sound.placed (i / m.ways) (i % m.ways) (set_below m.sets m.ways mapped.product i l) (way_of mapped i) (ap (λ e. e.valid) (at i) ∙ v) in (k.0, k.1, (v, k.2 ∙ ap (λ e. (i / m.ways, e.tag)) (at i)));
     once = once;
-    dirty = λ i l d. sym (ap (λ e. e.valid) (at i)) ∙ (sound.dirty (i / m.ways) (i % m.ways) (row_of mapped i l) (way_of mapped i) (ap (λ e. e.dirty) (at i) ∙ d)).0;
-    writable = λ i l d. ap (λ e. locked (m.join (i / m.ways, e.tag))) (sym (at i)) ∙ (sound.dirty (i / m.ways) (i % m.ways) (row_of mapped i l) (way_of mapped i) (ap (λ e. e.dirty) (at i) ∙ d)).1;
+    dirty = λ i l d. sym (ap (λ e. e.valid) (at i)) ∙ (sound.dirty (i / m.ways) (i % m.ways) (set_below m.sets m.ways mapped.product i l) (way_of mapped i) (ap (λ e. e.dirty) (at i) ∙ d)).0;
+    writable = λ i l d. ap (λ e. locked (m.join (i / m.ways, e.tag))) (sym (at i)) ∙ (sound.dirty (i / m.ways) (i % m.ways) (set_below m.sets m.ways mapped.product i l) (way_of mapped i) (ap (λ e. e.dirty) (at i) ∙ d)).1;
     vacant = sound.vacant;
   }
 

@@ -38,10 +38,12 @@ impl Entry {
     pub fn fill(&mut self, tag: u16, bytes: [u8; 4])
         ensures { self.new ≡ clean tag bytes }
     {
-        self.tag = tag;
-        self.valid = true;
-        self.dirty = false;
-        self.bytes = bytes;
+        *self = Entry {
+            tag,
+            valid: true,
+            dirty: false,
+            bytes,
+        };
     }
 
     // The byte at an address of the entry's block is written here alone: the level below has yet to get it.

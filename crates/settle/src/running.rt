@@ -12,7 +12,7 @@ use level::{Done, Level};
 use words::CallRefusal;
 
 // A pile that takes every call, with the account of its calls since it was started or last resumed. It cannot be let go:
-// it is settled, and then ended.
+// it is settled, and then ended. It has no Model: a view would leave out what the caller lent.
 pub struct Running<L> {
     pile: L,
     account: Account,
@@ -33,6 +33,8 @@ impl<L: Level> Running<L> {
         (running, SaveSlip::new())
     }
 
+    // Here and below a refused call is counted too, for nothing: after a `?` it would not be known that the counts fit, since
+    // nothing reads them.
     pub fn read(&mut self, address: u16) -> Result<Done, CallRefusal>
         ensures { Takes L.Level self.old (read_call address) result self.new }
     {

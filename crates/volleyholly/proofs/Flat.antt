@@ -1,6 +1,6 @@
 -- A list that runs on a pile of the host call is answered as by an array of bytes.
-use Rattle.std.proofs.Common.{◌≡◌, ℕ, ◌<◌, true, false, eqb, List, [], ◌∷◌, length, get_or, sym, refl, ◌∙◌, arith}
-use Rattle.std.proofs.lemmas.List.{same_lists, get_or_default}
+use Rattle.std.proofs.Common.{◌≡◌, ℕ, true, false, eqb, List, [], ◌∷◌, length, sym, refl, ◌∙◌, arith}
+use Rattle.std.proofs.lemmas.Grind.{same_number_lists}
 use Rattle.std.proofs.lemmas.Bool.{eq-eqb}
 use Rattle.level.specs.Level.{Call, Rules}
 use Rattle.level.specs.Level.Call.{return_all}
@@ -27,10 +27,6 @@ pub run_list : {S : Type 0} {R : Rules S} {s : S} (cs : List Call) (t : S) (log 
 run_list [] t log r = r
 run_list {R = R} (c ∷ cs) t log r = run_list cs (R.step t c).next (logged c (R.step t c).answer log) (called r c)
 
--- two arrays of one length with the same bytes
-same_bytes : (n : ℕ) (xs ys : List ℕ) → length xs ≡ n → length ys ≡ n → ((a : ℕ) → a < n → get_or xs a 0 ≡ get_or ys a 0) → xs ≡ ys
-same_bytes n xs ys lx ly e = same_lists xs ys (lx ∙ sym ly) (λ k d h. get_or_default xs k d 0 h ∙ e k (omega (arith, lx)) ∙ get_or_default ys k 0 d (omega (arith, lx, ly)))
-
 module _ {Q : Type 0} (m : Shape) (P : Orders Q) (mapped : Mapped m) (ordered : Ordered P m.sets m.ways) where
   abbrev over_plain : Rules (Cached Plain Q)
   over_plain = cache_rules plain_rules m P
@@ -56,7 +52,7 @@ module _ {Q : Type 0} (m : Shape) (P : Orders Q) (mapped : Mapped m) (ordered : 
         let run = called (run_list {R = over_plain} cs fresh [] begun) return_all in
         let back = (means.kept fresh _ _ (refl, refl, tt) run).never_back in
         let long = (placed_now run back.0 back.1).as_long in
-        rw (← size_there) (same_bytes (over_plain.size fresh) _ _ (long ∙ sym size_there) array_there.shows.long array_there.returned)
+        rw (← size_there) (same_number_lists _ _ (long ∙ sym size_there ∙ sym array_there.shows.long) (λ k l. array_there.returned k (omega (arith, long, size_there))))
 
     answers_there : AllAsArray (length memory) (λ b. false) memory cs (answers over_plain fresh cs)
     answers_there = rw (← size_there) array_there.answers

@@ -1,6 +1,5 @@
 ghost use Rattle.std.specs.Prelude.{◌≡◌};
 ghost use Rattle.volleyholly.specs.Host.{ArrayLaw, AsArrayRun, hosted, policy_of, run_and_return, run_number, run_through, shape_of};
-ghost use Rattle.volleyholly.specs.Piles.{pile_number};
 
 use crate::piles::PileKind;
 use cache::Cache;
@@ -22,9 +21,9 @@ fn run_and_return<L: Level>(pile: &mut L, list: &[u8], results: &mut [u8]) -> Re
     Ok(())
 }
 
-// Puts a cache on the memory, runs the list, and hands the memory back. The bytes are a type parameter: what a caller's
-// slice holds is not known after it stood in a cache of its own type. What is handed in stays four parameters: a struct
-// of slices that are lent would need a clause for each slice, that it stays the same one.
+// Puts a cache on the memory, runs the list, and hands the memory back. The bytes are a type parameter: what a
+// slice of the caller holds is not known after a cache was made of the slice itself. There are four parameters and no
+// struct of them: with slices that are lent it would need a clause for each slice, that it stays the same one.
 #[tactic(auto, unfolding(crate::specs::Host::run_through))]
 fn run_through<B: BytesMut, M: Mapping, P: Policy<M> + Drop>(
     memory: B,
@@ -43,7 +42,8 @@ fn run_through<B: BytesMut, M: Mapping, P: Policy<M> + Drop>(
     (pile.into_below().into_bytes(), outcome)
 }
 
-// Runs a request list on a fresh pile over the memory, and ends with a full return. A refusal changes nothing.
+// Runs a request list on a fresh pile over the memory, and ends with a full return. A refusal changes nothing. It has the
+// parameters and the clauses of the call for C, one for each thing that is left behind, so that each is told by its name.
 fn run(
     pile: u32,
     memory: &mut [u8],
@@ -60,7 +60,7 @@ fn run(
     // A figure that a byte does not hold is out of range, as 0 is.
     let figure = u8::try_from(clocks).unwrap_or(0);
     Plain::<&mut [u8]>::check(memory.len(), figure)?;
-    // One arm for each: the kind chooses types, which no value can.
+    // One arm for each, since a value cannot choose types in another way.
     match kind {
         PileKind::DirectFifo => run_through::<_, Direct, Fifo>(memory, figure, list, results).1,
         PileKind::SetAssociativeFifo => run_through::<_, SetAssociative, Fifo>(

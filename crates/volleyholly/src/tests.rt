@@ -14,7 +14,7 @@ const RESULTS: &[u8; 41] =
 fn a_list_is_run(rt: HostRuntime) {
     let mut memory = [0; 256];
     let mut results = [9; 41];
-    let code = volleyholly_run(2, &mut memory[0..256], 3, LIST, &mut results[0..41]);
+    let code = volleyholly_run(2, &mut memory, 3, LIST, &mut results);
     assert_eq!(rt; code, 0);
     assert_eq!(rt; memory[18], 7);
     assert_eq!(rt; results, *RESULTS);

@@ -23,7 +23,8 @@ pub fn check_list(list: &[u8]) -> Result<ListSummary, ListRefusal>
     if length == 0 || length > LONGEST_LIST || length % 4 != 0 {
         return Err(ListRefusal::Size);
     }
-    // In a `try_fold` it does not prove that the counts fit: a closure does not see what is left of the list.
+    // No `try_fold`: that the counts fit is known of what is left of the list, which a closure does not see. The requests
+    // are counted, since after the loop there is no word to ask for its place.
     let mut requests = 0;
     let mut waits = 0;
     for word in Reader::new(list) {

@@ -5,7 +5,7 @@ ghost use Rattle.std.specs.Iterator.{at_most};
 use crate::request::Word;
 
 // Goes through a list word by word, and tells each word's place.
-// By a rule of the project it is the rest of the list and a place, and a word goes off as four named bytes.
+// By a rule of the project it holds the rest of the list and a place, and takes a word off as four named bytes.
 #[derive(Drop)]
 pub struct Reader<'a> {
     rest: &'a [u8],
@@ -33,7 +33,8 @@ impl<'a> Iterator for Reader<'a> {
 
     ghost remaining = { λ s. at_most (length s.rest.now) };
 
-    // The next four bytes; a zero word, or fewer than four bytes, ends the reading.
+    // The next four bytes; a zero word, or fewer than four bytes, ends the reading. The bytes have names already, so each
+    // is compared with 0, and no array is made for it.
     fn next(&mut self) -> Option<Word> {
         match self.rest {
             [a, b, c, d, rest @ ..] if *a > 0 || *b > 0 || *c > 0 || *d > 0 => {

@@ -5,8 +5,8 @@ ghost use Rattle.words.specs.declared.refusal.Refusal.TheVariants.{Call, Guard, 
 
 use std::fmt;
 
-// Why a level refused a call. The depth is 0 at the level that refused, and each level above adds 1. The cause is the
-// variant, so that a caller matches it by name; a struct with a cause inside would be matched in two steps.
+// Why a level refused a call. The depth is 0 at the level that refused, and each level above adds 1. An enum with
+// the values in each case, as the other refusals are: what refuses makes a case by its cause, and a caller matches it so.
 #[derive(Clone, Copy, PartialEq, Eq, Debug)]
 pub enum CallRefusal {
     OutOfRange { address: u16, depth: u8 },

@@ -70,7 +70,8 @@ impl fmt::Display for Operation {
 }
 
 impl Request {
-    // The request word. A method, as `to_be_bytes` is one: its name says what the four bytes are, and `from` would not.
+    // The request word. A method, as `to_be_bytes` is one: a `From` would be called by the type of an array, which does not
+    // say what the bytes are.
     pub fn encode(self) -> [u8; 4]
         ensures value { result ≡ word self }
         ensures back { decoded result ≡ Some (asked self) }
@@ -99,7 +100,8 @@ impl Word {
     // valid bit is a request, a write takes any data, and a full return no address.
     const BOUNDS: [u32; 8] = [0, 0, 0, 0, 1 << 16, 1 << 24, 1 << 16, 1];
 
-    // The request of this word, or the refusal of a word outside the layout. A method, as the way back of `encode`.
+    // The request of this word, or the refusal of a word outside the layout. The way back of `encode`, and a method like it;
+    // in a `TryFrom` its three promises would be one.
     // By a rule of the project the mode is matched, with guards on the data and the address.
     pub fn decode(self) -> Result<Request, ListRefusal>
         ensures value { option_map asked (result_ok result) ≡ decoded self.bytes }
@@ -127,19 +129,14 @@ impl Word {
         u32::from(byte) * 65536 + u32::from(address) < Self::BOUNDS[(head >> 5) as usize]
     }
 
-    // The first byte, the address and the data. They are taken out of one number, so that a word is loaded at once.
+    // The first byte, the address and the data.
     fn fields(self) -> (u8, u16, u8)
         ensures head { result.0 ≡ slice_index self.bytes 0 }
         ensures address { result.1 ≡ slice_index self.bytes 1 * 256 + slice_index self.bytes 2 }
         ensures byte { result.2 ≡ slice_index self.bytes 3 }
     {
-        let [b0, b1, b2, b3] = self.bytes;
-        let bits = u32::from_be_bytes([b0, b1, b2, b3]);
-        (
-            (bits / 16777216) as u8,
-            (bits / 256 % 65536) as u16,
-            (bits % 256) as u8,
-        )
+        let [head, high, low, byte] = self.bytes;
+        (head, u16::from_be_bytes([high, low]), byte)
     }
 
     // The clocks that pass before the request, in a word inside the layout.

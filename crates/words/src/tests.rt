@@ -49,9 +49,7 @@ fn the_zero_word_ends_a_list(rt: HostRuntime) {
 #[test]
 fn words_at_the_edges(rt: HostRuntime) -> Result<(), Fail> {
     assert!(rt; Wait::new(32).is_none());
-    let Some(longest) = Wait::new(31) else {
-        return Err(Fail::new("31 fits five bits"));
-    };
+    let longest = Wait::new(31).ok_or("31 does not fit five bits")?;
     let last = Request {
         wait: longest,
         operation: Operation::Write {

@@ -11,7 +11,7 @@ impl Wait {
     pub const LONGEST: u8 = 31;
 
     // The wait of so many clocks, or none where five bits do not hold them.
-    // No `try_from`: it would want an error type, which had nothing to tell.
+    // No `TryFrom`: its error would say no more than none.
     pub fn new(clocks: u8) -> Option<Wait>
         ensures { MatchOption result (32 ≤ clocks) (λ wait. wait.clocks ≡ clocks) }
     {
@@ -21,7 +21,7 @@ impl Wait {
         Some(Wait { clocks })
     }
 
-    // The wait in the low five bits of a byte.
+    // The wait in the low five bits of a byte. No `From`, which would not say that three bits are left out.
     pub(crate) fn low_bits(byte: u8) -> Wait
         ensures { result.clocks ≡ byte % 32 }
     {

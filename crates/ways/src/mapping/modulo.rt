@@ -6,7 +6,8 @@ use super::Mapping;
 use crate::block::Block;
 
 // A mapping whose set is the remainder of the block's number by the number of sets, and whose tag is the quotient: blocks
-// that follow one another lie in different sets, as far as there are sets.
+// that follow one another lie in different sets, as far as there are sets. A trait with a law, and no type with two const
+// parameters, since such a type could not ask that their product is 8.
 pub trait Modulo {
     ghost SETS: { ℕ };
 

@@ -8,8 +8,8 @@ use crate::block::Block;
 use crate::mapping::Mapping;
 use crate::slot::Slot;
 
-// The block that was not called for longest is given up first. A type of its own beside Fifo, not a flag: a name says which
-// of the two is meant, and what a hit does is all that differs.
+// The block that was not called for longest is given up first. A type beside Fifo with its own `hit`: the row has all that
+// the two share, and a parameter for what a hit does would be longer than the calls of the row.
 #[derive(Drop)]
 pub struct Lru {
     row: Row,

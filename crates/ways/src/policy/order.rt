@@ -8,7 +8,8 @@ use crate::mapping::Mapping;
 use crate::slot::Slot;
 
 // The orders of all sets, in one row of bytes: each set has as many places as there are ways.
-// A byte is read modulo the number of ways, so every row has an order for each set.
+// A byte is read modulo the number of ways, so every row has an order for each set. It has no Model, since what it means
+// hangs on the mapping, which its calls get.
 #[derive(Drop)]
 pub(super) struct Row {
     pub(super) bytes: [u8; 8],
@@ -97,7 +98,8 @@ fn to_back(order: &mut [u8], way: usize)
 {
     let ways = order.len();
     let mut carried = way;
-    // By place, since a proof knows nothing of what was written through `iter_mut().rev()`.
+    // By place, since a proof knows nothing of what was written through `iter_mut().rev()`, and to turn the order round
+    // before and after takes four times as long.
     for i in (0..ways).rev() {
         let met = order[i] as usize % ways;
         order[i] = carried as u8;
