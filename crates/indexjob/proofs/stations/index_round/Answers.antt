@@ -1,4 +1,4 @@
-use Rattle.std.proofs.Common.{◌+◌, ◌%◌, rules, arith, sym, refl, ap, sum_by, length-set, take_all}
+use Rattle.std.proofs.Common.{◌+◌, ◌%◌, rules, arith, sym, refl, length-set}
 use Rattle.indexjob.specs.Job.{Reads, after_round, nowhere}
 use Rattle.indexjob.proofs.Turns.{in_turn-none, in_turn-more, one_more, sum_one_more}
 use Rattle.indexjob.proofs.stations.index_round.Goals as goal
@@ -18,8 +18,3 @@ loop-station-preserved g c =
       next = simp in_turn-more (search rules);
       lent = search rules;
     }
-
-pub returns-clause-clocks : goal.returns-clause-clocks
-returns-clause-clocks g c =
-    let made = c.loop-station.invariant in
-    omega (arith, ap (sum_by (λ step. step.clocks)) (take_all c.loop-station.station c.loop-station.step-items (omega arith)), made.stops)
