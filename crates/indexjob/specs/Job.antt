@@ -1,7 +1,7 @@
 -- What a job reckons with.
 use Rattle.std.specs.Prelude.{◌≡◌, ℕ, zero, suc, ◌+◌, ◌*◌, ◌/◌, ◌%◌, List, Result, OnOk, get_or, slice_index_or}
 use Rattle.level.specs.declared.level.Level.{Ghosts}
-use Rattle.level.specs.Level.{Rules, topped, value}
+use Rattle.level.specs.Level.{Rules, clocks, topped, value}
 use Rattle.level.specs.Level.Call.{read, write}
 use Rattle.settle.specs.declared.running.Running.{Running}
 use Rattle.indexjob.specs.declared.angle.Angle.{Angle}
@@ -33,18 +33,31 @@ module _ {S : Type 0} (R : Rules S) (s : S) (place : ℕ) where
   abbrev pub after_angle : S
   after_angle = (R.step (R.step s (read place)).next (read (place + 1))).next
 
+  -- what the two reads cost
+  abbrev pub angle_clocks : ℕ
+  angle_clocks = clocks (R.step s (read place)).answer + clocks (R.step (R.step s (read place)).next (read (place + 1))).answer
+
   -- the state that the writes of an angle lead to
   abbrev pub after_teaching : (tenths : ℕ) → S
   after_teaching tenths = (R.step (R.step s (write place (tenths / 256))).next (write (place + 1) (tenths % 256))).next
 
--- the state that a move from one station to another leads to: it reads both angles, and notes the one station at the other
-abbrev pub after_move : {S : Type 0} → Rules S → S → (from to : ℕ) → S
-after_move R s from to = (R.step (after_angle R (after_angle R s (16 * from)) (16 * to)) (write (16 * to + 2) from)).next
+-- a move from one station to another: it reads both angles, and notes the one station at the other
+module _ {S : Type 0} (R : Rules S) (s : S) (from to : ℕ) where
+  -- the state that it leads to
+  abbrev pub after_move : S
+  after_move = (R.step (after_angle R (after_angle R s (16 * from)) (16 * to)) (write (16 * to + 2) from)).next
 
--- a move from one station to the next, begun in the state s, has the two angles as they were read
+  -- what its five calls cost
+  abbrev pub move_clocks : ℕ
+  move_clocks =
+      angle_clocks R s (16 * from) + angle_clocks R (after_angle R s (16 * from)) (16 * to)
+      + clocks (R.step (after_angle R (after_angle R s (16 * from)) (16 * to)) (write (16 * to + 2) from)).answer
+
+-- a move from one station to the next, begun in the state s, has the two angles as they were read, and the clocks that its calls cost, stopping at the top
 pub record Reads {S : Type 0} (R : Rules S) (s : S) (station next : ℕ) (step : Move) : Type 0 where
   pub from : step.from.tenths ≡ angle_read R s (16 * station)
   pub to : step.to.tenths ≡ angle_read R (after_angle R s (16 * station)) (16 * next)
+  pub clocks : step.clocks ≡ topped (move_clocks R s station next)
 
 -- ---- a piece at each station, one after the other
 

@@ -1,6 +1,7 @@
 ghost use Rattle.std.specs.Prelude.{◌≡◌, ℕ, ◌+◌, ◌*◌, ◌%◌, ◌<◌, true, IfOk, slice_index_or, sum_by};
+ghost use Rattle.level.specs.Level.{topped};
 ghost use Rattle.indexjob.specs.Angles.{angle_at};
-ghost use Rattle.indexjob.specs.Job.{Costs, Does, Reads, WentBy, after_angle, after_angles, after_move, after_round, after_teaching, after_teachings, angle_read, nowhere, origin};
+ghost use Rattle.indexjob.specs.Job.{Costs, Does, Reads, WentBy, after_angle, after_angles, after_move, after_round, after_teaching, after_teachings, angle_clocks, angle_read, nowhere, origin};
 
 use crate::angle::Angle;
 use crate::quote::Stretch;
@@ -40,6 +41,7 @@ pub fn record_of(station: u8) -> u16
 // The angle of a station, and what the two reads cost.
 fn read_angle<L: Level>(running: &mut Running<L>, station: u8) -> Result<(Angle, u32), CallRefusal>
     ensures angle { IfOk result (λ told. told.0.tenths ≡ angle_read L.Level.rules (L.Level.state running.old.pile) (16 * station)) }
+    ensures cost { IfOk result (λ told. told.1 ≡ topped (angle_clocks L.Level.rules (L.Level.state running.old.pile) (16 * station))) }
     ensures clocks { IfOk result (λ told. Costs running.old told.1 running.new) }
     ensures does { Does L.Level running.old (λ s. after_angle L.Level.rules s (16 * station)) running.new result }
 {

@@ -26,8 +26,15 @@ pub trait BytesMut: Bytes {
         ensures lent { lent self.new ≡ lent self.old };
 }
 
-// What lends its bytes as a slice, such as a slice that the caller lets be read, or one that the caller lends.
-impl<B: AsSlice<u8>> Bytes for B {
+// A slice of bytes that the caller lets be read, or one that the caller lends. Not all that can be read as a slice: a
+// builder's type that can be may hold other bytes for a memory than its slice has, by an `impl Bytes` of its own.
+pub trait LentSlice: AsSlice<u8> {}
+
+impl LentSlice for &[u8] {}
+
+impl LentSlice for &mut [u8] {}
+
+impl<B: LentSlice> Bytes for B {
     ghost content = { B.AsSlice.items };
 
     fn count(&self) -> usize {

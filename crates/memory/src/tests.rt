@@ -1,11 +1,12 @@
-ghost use Rattle.std.specs.Prelude.{◌≡◌};
+ghost use Rattle.std.specs.Prelude.{◌≡◌, [], ◌∷◌, slice_index};
 ghost use Rattle.level.specs.Level.Call.{write as write_call};
 ghost use Rattle.level.specs.Memory.{plain_rules};
 ghost use Rattle.memory.specs.Plains.{plain_made};
 
-use crate::{Guard, Image, Modules, Plain};
+use crate::{Bytes, Guard, Image, Modules, Plain};
 use level::{Access, Done, Level};
-use words::{CallRefusal, GuardRefusal, MemoryRefusal};
+use std::convert::AsSlice;
+use words::{CallRefusal, GuardRefusal, MemoryRefusal, Refusal};
 
 fn done(value: u8, clocks: u32) -> Done {
     Done { value, clocks }
@@ -130,4 +131,74 @@ fn guard_over_guard(rt: HostRuntime) {
     assert_eq!(rt; outer.read(16), Err(out_of_range(16, 2)));
     let mut none = Guard::new(outer, 0, 5);
     assert_eq!(rt; none.read(0), Err(out_of_range(0, 0)));
+}
+
+fn number<E>(refusal: E) -> u8
+where
+    Refusal: From<E>,
+{
+    Refusal::from(refusal).number()
+}
+
+#[test]
+fn refusals_by_number(rt: HostRuntime) {
+    let mut bytes = [0; 16];
+    let memory = Plain::new(bytes.as_mut_slice(), 1);
+    assert_eq!(rt; memory.query(16, Access::Read).map_err(number), Err(1));
+    assert_eq!(rt; Plain::<&mut [u8]>::check(65540, 0).map_err(number), Err(3));
+    assert_eq!(rt; Image::<&[u8]>::check(4, 16).map_err(number), Err(4));
+    assert_eq!(rt;
+        Modules::<&mut [u8]>::check(2, 1, 2, 5).map_err(number),
+        Err(3)
+    );
+    assert_eq!(rt;
+        Modules::<&mut [u8]>::check(2, 2, 5, 2).map_err(number),
+        Err(4)
+    );
+    assert_eq!(rt; Guard::check(&memory, 0, 0).map_err(number), Err(5));
+    assert_eq!(rt; Guard::check(&memory, 3, 2).map_err(number), Err(6));
+    let guard = Guard::new(memory, 0, 1);
+    assert_eq!(rt; guard.query(3, Access::Write).map_err(number), Err(2));
+}
+
+// A builder's bytes, which a memory reads from the back, whatever the slice is that they can be read as.
+#[derive(Drop)]
+struct Backwards {
+    bytes: [u8; 4],
+}
+
+impl AsSlice<u8> for Backwards {
+    ghost items = { λ b. b.bytes };
+
+    fn as_slice(&self) -> &[u8] {
+        &self.bytes[..]
+    }
+}
+
+impl Bytes for Backwards {
+    ghost content = { λ b. slice_index b.bytes 3 ∷ (slice_index b.bytes 2 ∷ (slice_index b.bytes 1 ∷ (slice_index b.bytes 0 ∷ []))) };
+
+    fn count(&self) -> usize {
+        4
+    }
+
+    fn get(&self, place: usize) -> u8 {
+        match place {
+            0 => self.bytes[3],
+            1 => self.bytes[2],
+            2 => self.bytes[1],
+            3 => self.bytes[0],
+            _ => 0,
+        }
+    }
+}
+
+#[test]
+fn bytes_of_a_builder(rt: HostRuntime) {
+    let bytes = [1, 2, 3, 4];
+    assert_eq!(rt; bytes.get(4), None);
+    let mut memory = Image::new(Backwards { bytes }, 3);
+    assert_eq!(rt; memory.read(0), Ok(done(4, 3)));
+    assert_eq!(rt; memory.read(3), Ok(done(1, 3)));
+    assert_eq!(rt; memory.read(4), Err(out_of_range(4, 0)));
 }

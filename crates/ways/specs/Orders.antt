@@ -1,7 +1,7 @@
 -- The order of a set's ways: each way once, whatever the policy was told.
-use Rattle.std.specs.Prelude.{◌≡◌, ℕ, zero, suc, ◌+◌, ◌<◌, ◌≤◌, cond, List, [], ◌∷◌, ◌++◌, ◌==◌, refl}
+use Rattle.std.specs.Prelude.{◌≡◌, ℕ, zero, suc, ◌+◌, ◌<◌, ◌≤◌, cond, List, [], ◌∷◌, ◌++◌, ◌==◌, ◌≢◌, refl}
 use Rattle.std.proofs.Common.{sym, ◌∙◌, ap, subst, inl, inr, append_assoc, arith}
-use Rattle.std.proofs.lemmas.Bool.{cases_eq}
+use Rattle.std.proofs.lemmas.Bool.{eq-eqb, ne_eqb, cases_eq}
 use Rattle.std.proofs.lemmas.Bool.Decides.{nat_tests}
 use Rattle.ways.specs.Ways.{Orders, Ordered, Moves, Reached, falling, last_of}
 use Rattle.ways.specs.Ways.Reached.{made, hits, loads, empties}
@@ -15,6 +15,12 @@ times w (x ∷ xs) = cond (x == w) 1 0 + times w xs
 times_append : (w : ℕ) (xs ys : List ℕ) → times w (xs ++ ys) ≡ times w xs + times w ys
 times_append w [] ys = omega arith
 times_append w (x ∷ xs) ys = omega (arith, times_append w xs ys)
+
+times_same : (x w : ℕ) (xs : List ℕ) → x ≡ w → times w (x ∷ xs) ≡ 1 + times w xs
+times_same x w xs e = rw (eq-eqb x w e)
+
+times_other : (x w : ℕ) (xs : List ℕ) → (x ≢ w) → times w (x ∷ xs) ≡ times w xs
+times_other x w xs e = rw (ne_eqb x w e) (omega arith)
 
 counted : (w : ℕ) (xs : List ℕ) → In w xs → 0 < times w xs
 counted w [] i = absurd i
