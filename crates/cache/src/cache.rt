@@ -130,8 +130,8 @@ impl<L: Level, M: Mapping, P: Policy<M>> Cache<L, M, P> {
         }
     }
 
-    // An entry is written below if it is dirty, for one look more, and emptied. Not inlined: inlined into a full return it is
-    // too long for the eight turns to be unrolled, and the slots are then an array in memory, made anew each time.
+    // An entry is written below if it is dirty, for one look more, and emptied. Not inlined: in sets of two ways the eight
+    // turns of a full return get too long to be unrolled, and the slots are then an array in memory, made anew each time.
     #[inline(never)]
     fn evict(&mut self, slot: Slot) -> u32
         ensures { Evicts L.Level M.Mapping P.Policy self.old slot.index result self.new }
